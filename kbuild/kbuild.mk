@@ -52,9 +52,10 @@ confstamp-directly = { $(CONFSTAMP) $(confstamp-dialect) record --cmd $(confstam
 	$(if $(confstamp-in-place),,&& cat $(confstamp-command-file)); }
 endif
 
-# In front of the command by which Xen removes auto.conf before each synchronisation, and U-Boot where it can't write include/autoconf.mk:
-# without auto.conf their conf touches all symbols. It is an old file then, so that their own tools synchronise as well.
+# Without auto.conf the conf of Xen and U-Boot touches all symbols. So it becomes an old file where their make would remove it, and their own
+# tools synchronise as well; and before each synchronisation: U-Boot's make takes flags and SOC from one that is no older than .config.
 confstamp-keeps = touch -c -d @1 include/config/auto.conf; :
+confstamp-is-old = $(if $(CONFSTAMP_ASKS),,$(if $(filter u-boot,$(confstamp-dialect)),$(shell $(confstamp-keeps))))
 
 # As make makes the recipe, before the compiler or linker runs: the command file is emptied, so that make makes once more what is
 # made and not recorded, as where it is killed in between. make itself writes, since a process for each target would cost more. Each
@@ -156,7 +157,7 @@ define confstamp-rules
 $(confstamp-take-over)
 .PRECIOUS: $(addprefix include/,config/auto.conf config/auto.conf.cmd generated/autoconf.h generated/rustc_cfg)
 export CONFSTAMP_BUILDS := yes
-$(if $(if $(confstamp-changed),,$(confstamp-synchronised)),,$(if $(filter-out 1 2 3,$(MAKE_RESTARTS)),$(confstamp-never))$(confstamp-last-file): FORCE)
+$(if $(if $(confstamp-changed),,$(confstamp-synchronised)),,$(if $(filter-out 1 2 3,$(MAKE_RESTARTS)),$(confstamp-never))$(confstamp-is-old)$(confstamp-last-file): FORCE)
 $(confstamp-marks)
 endef
 

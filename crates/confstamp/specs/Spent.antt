@@ -1,5 +1,5 @@
 -- Which dependency file a command leaves to be removed.
-use Rattle.std.specs.Prelude.{◌≡◌, ℕ, ◌==◌, List, Option, Some, None, Result, Ok, Err, string_bytes, if◌then◌else◌}
+use Rattle.std.specs.Prelude.{◌≡◌, ℕ, ◌==◌, List, Option, Some, None, Result, Ok, string_bytes, if◌then◌else◌}
 use Rattle.ks_tree.specs.Files.{Files, SameBut, content}
 use Rattle.ks_requests.specs.declared.request.DepfileAfter.TheVariants.{Removed}
 use Rattle.ks_requests.specs.declared.request.Request.{Request}

@@ -1,6 +1,6 @@
 //! The lock on the directory that the program works in, which makes no file. Where the file system knows no locks, or the directory may
 //! not be opened, the program goes on without. For any other failure it is refused: another program may have the lock.
-use ks_session::{DirectoryLock, Locking};
+use ks_session::DirectoryLock;
 use std::fs::{File, TryLockError};
 use std::io::ErrorKind;
 use std::thread;
@@ -47,19 +47,16 @@ pub(crate) fn lock_directory(
     directory: &str,
     lock: DirectoryLock,
     seconds: u64,
-) -> Locking<File> {
+) -> Result<Option<File>, TryLockError> {
     let path = if directory.is_empty() { "." } else { directory };
     let directory = match File::open(rt, path) {
         Ok(directory) => directory,
-        Err(error) if error.raw_os_error() == Some(EACCES) => return Locking::Had(None),
-        Err(error) => return Locking::Failed(error),
+        Err(error) if error.raw_os_error() == Some(EACCES) => return Ok(None),
+        Err(error) => return Err(TryLockError::Error(error)),
     };
     match try_directory_for(rt, &directory, lock, seconds) {
-        Ok(()) => Locking::Had(Some(directory)),
-        Err(TryLockError::WouldBlock) => Locking::Busy,
-        Err(TryLockError::Error(error)) if error.kind() == ErrorKind::Unsupported => {
-            Locking::Had(None)
-        }
-        Err(TryLockError::Error(error)) => Locking::Failed(error),
+        Ok(()) => Ok(Some(directory)),
+        Err(TryLockError::Error(error)) if error.kind() == ErrorKind::Unsupported => Ok(None),
+        Err(error) => Err(error),
     }
 }

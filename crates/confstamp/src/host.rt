@@ -1,10 +1,10 @@
 //! The system, as a command comes to its directory by it. Each call is one of the system's, or of the module that makes it.
 use crate::directory_lock::lock_directory;
 use crate::lost_numbers::find_loss;
-use ks_session::{DirectoryLock, Host, Locking, Loss, Script};
+use ks_session::{DirectoryLock, FoundFile, Host, Loss};
 use ks_system::FolderTree;
 use std::alloc::{AllocError, Global};
-use std::fs::File;
+use std::fs::{File, TryLockError};
 use std::hash::{BuildHasher, Hasher, RandomState};
 use std::io::ErrorKind;
 use std::rt::Files;
@@ -60,12 +60,12 @@ impl<'a> Host for OwnHost<'a> {
         directory: &str,
         lock: DirectoryLock,
         seconds: u64,
-    ) -> Locking<File> {
-        let locking = lock_directory(self.rt, directory, lock, seconds);
-        if let (DirectoryLock::Exclusive, Locking::Had(Some(_))) = (lock, &locking) {
+    ) -> Result<Option<File>, TryLockError> {
+        let locked = lock_directory(self.rt, directory, lock, seconds)?;
+        if matches!(lock, DirectoryLock::Exclusive) && locked.is_some() {
             work_tree.claim_stamps();
         }
-        locking
+        Ok(locked)
     }
 
     fn find_loss(
@@ -77,7 +77,7 @@ impl<'a> Host for OwnHost<'a> {
         find_loss(self.rt, work_tree, directory)
     }
 
-    fn hold(&self, work_tree: &mut FolderTree<&'a HostRuntime>, script: Script) {
-        work_tree.hold(script.path, script.found);
+    fn hold(&self, work_tree: &mut FolderTree<&'a HostRuntime>, file: FoundFile) {
+        work_tree.hold(file.path, file.text);
     }
 }

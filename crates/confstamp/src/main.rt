@@ -2,7 +2,7 @@
 #![tactic(auto)]
 
 ghost use Rattle.std.specs.Prelude.{◌≡◌, IfOk};
-ghost use Rattle.confstamp.specs.Starts.{start_status};
+ghost use Rattle.confstamp.specs.Starts.{stop_status};
 
 mod directory_lock;
 mod host;
@@ -16,7 +16,7 @@ use ks_commands::execute;
 use ks_errors::{DEVICE, KnownError, OUT_OF_MEMORY, Row};
 use ks_requests::Request;
 use ks_session::{
-    ArgError, CommandArgs, Loss, ParsedOptions, Ready, Settings, Start, enter_directory,
+    ArgError, CommandArgs, Loss, ParsedOptions, Ready, Settings, Stop, enter_directory,
     parse_global_options,
 };
 use ks_streams::Stream;
@@ -25,6 +25,7 @@ use ks_system::{System, SystemTree, reason_of};
 use spent::remove_spent;
 use standard::{Standard, exit_status};
 use std::alloc::{AllocError, Global};
+use std::fs::TryLockError;
 use std::io::ErrorKind;
 use std::process::ExitCode;
 use std::{env, io};
@@ -108,38 +109,34 @@ fn print_loss(rt: &HostRuntime, loss: Loss) {
     };
 }
 
-/// Prints why a command did not come to its directory, and returns its exit status, by which a script knows what may be tried again from
-/// what has to be mended. These statuses stay.
-fn print_no_start<P: Drop, L: Drop>(
-    rt: &HostRuntime,
-    directory: &str,
-    answer: Start<P, L>,
-) -> Result<u8, AllocError>
-    ensures { IfOk result (λ status. status ≡ start_status answer) }
+/// Prints why a command doesn't run, and returns its exit status, by which a script knows what may be tried again from what has to be
+/// mended. These statuses stay.
+fn print_stop(rt: &HostRuntime, directory: &str, stop: Stop) -> Result<u8, AllocError>
+    ensures { IfOk result (λ status. status ≡ stop_status stop) }
 {
-    match answer {
-        Start::Ready(_) => Ok(REFUSED),
-        Start::NoDirectory(error) => {
+    match stop {
+        Stop::NoDirectory(error) => {
             print_no_directory(rt, directory, &error)?;
             Ok(REFUSED)
         }
-        Start::NoSeed => {
+        Stop::NoSeed => {
             let _ = eprintln!(rt; "confstamp: 30 Device\n  the system gives no random number");
             print_hint(rt, &DEVICE);
             Ok(REFUSED)
         }
-        Start::Busy => {
+        Stop::NoLock(TryLockError::WouldBlock) => {
             let _ = eprintln!(rt; "{BUSY}");
             Ok(TRY_AGAIN)
         }
-        Start::NoLock(error) => {
+        Stop::NoLock(TryLockError::Error(error)) => {
             print_no_lock(rt, directory, &error)?;
             Ok(REFUSED)
         }
-        Start::Lost(loss) => {
+        Stop::Lost(loss) => {
             print_loss(rt, loss);
             Ok(NUMBERS_LOST)
         }
+        Stop::OutOfMemory => Err(AllocError),
     }
 }
 
@@ -199,9 +196,9 @@ fn run_in_directory(
     asked: &Result<Request, WordsError>,
 ) -> Result<u8, AllocError> {
     let host = OwnHost::new(rt);
-    match enter_directory(&host, rt.alloc(), settings, asked)? {
-        Start::Ready(ready) => Ok(perform_locked(rt, ready, asked)),
-        answer => print_no_start(rt, settings.directory.as_str(), answer),
+    match enter_directory(&host, rt.alloc(), settings, asked) {
+        Ok(ready) => Ok(perform_locked(rt, ready, asked)),
+        Err(stop) => print_stop(rt, settings.directory.as_str(), stop),
     }
 }
 

@@ -1,9 +1,10 @@
 -- The numbers that files hold: auto.conf, command files and stamps.
-use Rattle.std.specs.Prelude.{◌≡◌, ◌&&◌, ℕ, Bool, false, List, Option, Some, None, Result, Ok, Err, bytes_eq, codes, if◌then◌else◌, length, nat_eq, nat_lt}
+use Rattle.std.specs.Prelude.{◌≡◌, ◌&&◌, ℕ, Bool, false, true, List, Option, Some, None, Result, Ok, Err, bytes_eq, codes, if◌then◌else◌, is_none, length, nat_eq, nat_lt}
 use Rattle.std.specs.Bool.{MatchBool}
 use Rattle.std.specs.List.{ends_with, starts_with}
 use Rattle.ks_symbols.specs.Lines.{max_bytes}
 use Rattle.ks_symbols.specs.Names.{is_name}
+use Rattle.ks_output.specs.AutoConf.{auto_generation, auto_refusal}
 use Rattle.ks_fixdep.specs.CommandFile.{CommandRecord}
 use Rattle.ks_fixdep.specs.CommandReading.{reading}
 use Rattle.ks_tree.specs.Files.{Files, content}
@@ -15,18 +16,22 @@ use Rattle.ks_engine.specs.declared.error.EngineError.TheVariants.{BadCommandFil
 use Rattle.ks_engine.specs.LastSync.{old_auto}
 use Rattle.ks_engine.specs.Refusals.{Answers, and_then, of_stamp}
 use Rattle.ks_session.specs.Directories.{below}
+use Rattle.ks_session.specs.Lock.{text_of}
+use Rattle.ks_session.specs.declared.lock.FoundFile.{FoundFile}
 
--- what a test says of the generation of an auto.conf, which is 0 where it has none, or where there is none
-abbrev pub of_generation : (ℕ → Bool) → Option (List ℕ) → Result Bool EngineError
-of_generation test file = and_then (old_auto file) (λ old. Ok (test old.generation))
-
--- an auto.conf without a generation, or none at all
-abbrev pub begins_anew : Option (List ℕ) → Result Bool EngineError
-begins_anew = of_generation (λ g. nat_eq g 0)
-
--- one with a generation
+-- whether an auto.conf has a generation
 abbrev pub has_generation : Option (List ℕ) → Result Bool EngineError
-has_generation = of_generation (nat_lt 0)
+has_generation file = and_then (old_auto file) (λ old. Ok (nat_lt 0 old.generation))
+
+-- there is none, or one that can be read, without a generation
+abbrev pub has_no_generation : Option (List ℕ) → Bool
+has_no_generation None = true
+has_no_generation (Some b) = is_none (auto_refusal b) && nat_eq (auto_generation b) 0
+
+-- Numbers begin where that is known.
+abbrev pub begins_anew : Option FoundFile → Bool
+begins_anew None = false
+begins_anew (Some auto) = has_no_generation (text_of auto)
 
 -- a number that was given by a synchronisation
 abbrev pub is_given : Option ℕ → Bool

@@ -1,20 +1,21 @@
 //! One writer at a time: which lock on its directory a command needs. Without one two synchronisations at once could leave the header
 //! of one beside the auto.conf of the other, and objects would be called fresh wrongly.
-ghost use Rattle.std.specs.Prelude.{◌≡◌, None, Ok, Some, IfOk};
+ghost use Rattle.std.specs.Prelude.{◌≡◌, IfOk};
 ghost use Rattle.ks_requests.specs.ScriptSyncs.{script_syncs};
 ghost use Rattle.ks_tree.specs.Frames.{Reads};
-ghost use Rattle.ks_session.specs.Lock.{AreLocked, HoldsScript, IsAccessOf, IsLookedAt, IsScriptAccess, LooksAtScript, lock_for};
+ghost use Rattle.ks_session.specs.Lock.{LooksAt, LooksAtScript, lock_for, lock_needed, lock_of_request, lock_of_script};
 
 use ks_cli::WordsError;
 use ks_requests::{Reading, Request, script_syncs};
 use ks_tree::TreeFault;
 use std::alloc::{AllocError, Global};
 
-/// What was found in the place of a script, to be run as it was looked at.
+/// What was found at a path, to be used as it was looked at.
 #[derive(Drop)]
-pub struct Script {
+pub struct FoundFile {
     pub path: Vec<u8>,
-    pub found: Option<Vec<u8>>,
+    /// `None` where there is no file.
+    pub text: Option<Vec<u8>>,
 }
 
 /// The lock on its directory that a command needs.
@@ -26,95 +27,80 @@ pub enum DirectoryLock {
     Shared,
 }
 
-/// The lock that a command needs, and the script that was looked at to know it.
-#[derive(Drop)]
-pub struct Access {
-    pub lock: DirectoryLock,
-    pub script: Option<Script>,
+/// Reads the file at a path. Of one that the system doesn't give there is nothing; that there is none is held as a text is.
+pub(crate) fn look_at<T: Reading>(
+    alloc: Global,
+    tree: &mut T,
+    path: &[u8],
+) -> Result<Option<FoundFile>, AllocError>
+    ensures reads { Reads T.Tree tree.old tree.new ⊥ }
+    ensures looked { IfOk result (LooksAt T.Tree T.reads path.now tree.old tree.new) }
+{
+    let text = match tree.read_file(alloc, path) {
+        Ok(text) => text,
+        Err(TreeFault::OutOfMemory) => return Err(AllocError),
+        Err(_) => return Ok(None),
+    };
+    let path = path.to_vec(alloc)?;
+    Ok(Some(FoundFile { path, text }))
 }
 
-impl Access {
-    /// The access of a command for which nothing was looked at.
-    fn with_nothing_held(lock: DirectoryLock) -> Access
-        ensures lock { result.lock ≡ lock }
-        ensures nothing { result.script ≡ None }
-    {
-        Access { lock, script: None }
+/// What is found of the script of a `batch`. For any other request nothing is looked at.
+pub fn script_of<T: Reading>(
+    alloc: Global,
+    tree: &mut T,
+    asked: &Result<Request, WordsError>,
+) -> Result<Option<FoundFile>, AllocError>
+    ensures reads { Reads T.Tree tree.old tree.new ⊥ }
+    ensures looked { IfOk result (LooksAtScript T.Tree T.reads asked.now tree.old tree.new) }
+{
+    match asked {
+        Ok(Request::Batch { script }) => look_at(alloc, tree, script.as_bytes()),
+        _ => Ok(None),
     }
 }
 
-/// The lock that the lines of a script need. A script with a faulty line is refused later, and runs nothing.
-fn script_lock(text: &[u8]) -> DirectoryLock
-    ensures { result ≡ lock_for (script_syncs text.now) }
+/// The lock that the lines of a script need. A script with a faulty line is refused later, and runs nothing. One that the system
+/// doesn't give is taken for a synchronisation, since it may be there by the time that it is run.
+fn lock_of_script(script: &Option<FoundFile>) -> DirectoryLock
+    ensures { result ≡ lock_of_script script.now }
 {
-    if script_syncs(text) {
+    let syncs = match script {
+        Some(script) => match &script.text {
+            Some(text) => script_syncs(text),
+            None => false,
+        },
+        None => true,
+    };
+    if syncs {
         DirectoryLock::Exclusive
     } else {
         DirectoryLock::Shared
     }
 }
 
-/// The access that a script needs. One that the system doesn't give is taken for a synchronisation, since it may be there
-/// by the time that it is run; that there is none is held as a text is.
-fn script_access<T: Reading>(
-    alloc: Global,
-    tree: &mut T,
-    script: &str,
-) -> Result<Access, AllocError>
-    ensures reads { Reads T.Tree tree.old tree.new ⊥ }
-    ensures looked_at { T.is_honest → IfOk result (λ access. IsLookedAt T.Tree script.now tree.old tree.new access.script) }
-    ensures lock { IfOk result (IsScriptAccess script.now) }
-    ensures once { T.reads tree.old script.now tree.new }
-{
-    let found = match tree.read_file(alloc, script.as_bytes()) {
-        Ok(found) => found,
-        Err(TreeFault::OutOfMemory) => return Err(AllocError),
-        Err(_) => return Ok(Access::with_nothing_held(DirectoryLock::Exclusive)),
-    };
-    let lock = match &found {
-        Some(text) => script_lock(text),
-        None => DirectoryLock::Shared,
-    };
-    let path = script.as_bytes().to_vec(alloc)?;
-    Ok(Access {
-        lock,
-        script: Some(Script { path, found }),
-    })
-}
-
-/// The access that the request needs.
-fn request_access<T: Reading>(
-    alloc: Global,
-    tree: &mut T,
-    request: &Request,
-) -> Result<Access, AllocError>
-    ensures reads { Reads T.Tree tree.old tree.new ⊥ }
-    ensures looked_at { T.is_honest → IfOk result (λ access. HoldsScript T.Tree (Ok request.now) tree.old tree.new (Some access)) }
-    ensures lock { IfOk result (IsAccessOf request.now) }
-    ensures once { LooksAtScript T.reads (Ok request.now) tree.old tree.new }
+/// The lock that the request needs, by what was found of its script.
+fn lock_of_request(request: &Request, script: &Option<FoundFile>) -> DirectoryLock
+    ensures { result ≡ lock_of_request request.now script.now }
 {
     match request {
-        Request::Sync { .. } => Ok(Access::with_nothing_held(DirectoryLock::Exclusive)),
-        Request::Repair { .. } => Ok(Access::with_nothing_held(DirectoryLock::Exclusive)),
-        Request::Mark { .. } => Ok(Access::with_nothing_held(DirectoryLock::Exclusive)),
-        Request::Batch { script } => script_access(alloc, tree, script.as_str()),
-        _ => Ok(Access::with_nothing_held(DirectoryLock::Shared)),
+        Request::Sync { .. } => DirectoryLock::Exclusive,
+        Request::Repair { .. } => DirectoryLock::Exclusive,
+        Request::Mark { .. } => DirectoryLock::Exclusive,
+        Request::Batch { .. } => lock_of_script(script),
+        _ => DirectoryLock::Shared,
     }
 }
 
-/// The access that what was asked for needs, or `None` where the arguments make no request, which is reported later.
-pub fn access_of<T: Reading>(
-    alloc: Global,
-    tree: &mut T,
+/// The lock that what was asked for needs, or `None` where the arguments make no request, which is reported later.
+pub fn lock_needed(
     asked: &Result<Request, WordsError>,
-) -> Result<Option<Access>, AllocError>
-    ensures reads { Reads T.Tree tree.old tree.new ⊥ }
-    ensures looked_at { T.is_honest → IfOk result (HoldsScript T.Tree asked.now tree.old tree.new) }
-    ensures lock { IfOk result (AreLocked asked.now) }
-    ensures once { LooksAtScript T.reads asked.now tree.old tree.new }
+    script: &Option<FoundFile>,
+) -> Option<DirectoryLock>
+    ensures { result ≡ lock_needed asked.now script.now }
 {
     match asked {
-        Ok(request) => Ok(Some(request_access(alloc, tree, request)?)),
-        Err(_) => Ok(None),
+        Ok(request) => Some(lock_of_request(request, script)),
+        Err(_) => None,
     }
 }

@@ -1,46 +1,33 @@
 //! The numbers that files hold: the generation of auto.conf, those under which objects were recorded, and the stamps.
-ghost use Rattle.std.specs.Prelude.{◌≡◌, codes, IfErr, IfOk, IsErrOf, option_map};
+ghost use Rattle.std.specs.Prelude.{◌≡◌, codes, IfErr, IfOk, IsErrOf};
 ghost use Rattle.ks_tree.specs.Files.{content};
 ghost use Rattle.ks_tree.specs.Frames.{Reads};
-ghost use Rattle.ks_tree.specs.Paths.{auto_path, stamp_path};
+ghost use Rattle.ks_tree.specs.Paths.{stamp_path};
 ghost use Rattle.ks_engine.specs.Refusals.{Answers};
 ghost use Rattle.ks_session.specs.Directories as directories;
 ghost use Rattle.ks_session.specs.Numbers.{HoldsNumber, IsHighStamp, IsStampFault, begins_anew, has_generation, has_record_number, is_command_name};
 
 use crate::directory::below;
+use crate::lock::FoundFile;
 use ks_engine::EngineError;
 use ks_fixdep::borrow_command;
 use ks_output::read_auto_generation;
-use ks_requests::Reading;
 use ks_symbols::{Name, name_is_legal};
-use ks_tree::{Tree, auto_path, read_stamp};
+use ks_tree::{Tree, read_stamp};
 use std::alloc::Global;
 
-/// Whether numbers begin, and what was found of auto.conf to know it.
-#[derive(Drop)]
-pub struct NextOption {
-    pub begins: bool,
-    pub found: Option<Vec<u8>>,
-}
-
-/// Whether a synchronisation would begin the numbers: auto.conf is missing, or another tool wrote it.
-pub fn begins_anew<T: Reading>(alloc: Global, tree: &mut T) -> Result<NextOption, EngineError>
-    ensures reads { Reads T.Tree tree.old tree.new (IsErrOf result EngineError.Device) }
-    ensures read { T.is_honest → Answers (begins_anew (content (T.files tree.old) auto_path)) (λ reported. reported.begins) result }
-    ensures found { T.is_honest → IfOk result (λ reported. option_map (λ v. v.items) reported.found ≡ content (T.files tree.old) auto_path) }
-    ensures once { T.reads tree.old auto_path tree.new }
+/// Whether a synchronisation would begin the numbers: auto.conf is missing, or another tool wrote it. Of one that can't be read, or is
+/// faulty, the command that needs it tells why.
+pub fn begins_anew(auto: &Option<FoundFile>) -> bool
+    ensures { result ≡ begins_anew auto.now }
 {
-    let Some(text) = tree.read_file(alloc, auto_path())? else {
-        return Ok(NextOption {
-            begins: true,
-            found: None,
-        });
+    let Some(auto) = auto else {
+        return false;
     };
-    let begins = read_auto_generation(&text)? == 0;
-    Ok(NextOption {
-        begins,
-        found: Some(text),
-    })
+    match &auto.text {
+        Some(text) => matches!(read_auto_generation(text), Ok(0)),
+        None => true,
+    }
 }
 
 /// Whether a directory is the top of another tree: its own auto.conf has a generation, so the numbers below it are that tree's.

@@ -3,31 +3,21 @@
 //! configuration beside the auto.conf of another; who began numbers anew unasked would call stale objects fresh.
 //!
 //! All of it is decided here, over any system that answers these calls. `main` gives the system's own, and goes by the answer.
-ghost use Rattle.std.specs.Prelude.{◌≡◌, IfOk, option_map, string_bytes};
-ghost use Rattle.ks_session.specs.Calls.{Calls, no_calls};
-ghost use Rattle.ks_session.specs.Start.{Enters, Holds, IsKept, Locks, Looks, LooksIf, Opens, Starts, begins_none, first_held, needs_look};
+ghost use Rattle.std.specs.Prelude.{◌≡◌, IfOk, string_bytes, ⊤};
+ghost use Rattle.ks_session.specs.Calls.{Drew, Event, Found, Held, Locked, Looked, Opened};
+ghost use Rattle.ks_session.specs.Lock.{text_of};
+ghost use Rattle.ks_session.specs.Start.{HoldsFirst, Locks, Looks, LooksIf, Opens, Starts, begins_none, needs_look};
 
 use crate::global_options::Settings;
-use crate::lock::{Access, DirectoryLock, Script, access_of};
-use crate::numbers::{NextOption, begins_anew};
+use crate::lock::{DirectoryLock, FoundFile, lock_needed, look_at, script_of};
+use crate::numbers::begins_anew;
 use ks_cli::WordsError;
-use ks_engine::EngineError;
 use ks_requests::{Reading, Request};
 use ks_symbols::Dialect;
 use ks_tree::auto_path;
 use std::alloc::{AllocError, Global};
+use std::fs::TryLockError;
 use std::io;
-
-/// What came of asking for a lock.
-#[derive(Drop)]
-pub enum Locking<L> {
-    /// It is had as long as this is kept; `None` where no lock was asked for, or the system knows none.
-    Had(Option<L>),
-    /// Another program is in the way.
-    Busy,
-    /// The system failed, so nobody knows whether another program is in the way.
-    Failed(io::Error),
-}
 
 /// Why numbers would be lost, or might be.
 #[derive(Drop)]
@@ -38,8 +28,7 @@ pub enum Loss {
     Unread(String),
 }
 
-/// The calls of the system that a command comes to its directory by. Each is known to have been made where its answer is, since
-/// nothing else gives it.
+/// The calls of the system that a command comes to its directory by.
 pub trait Host {
     /// The tree of a directory.
     type WorkTree: Reading + Drop;
@@ -47,30 +36,32 @@ pub trait Host {
     /// What a lock is had by.
     type Lock: Drop;
 
-    ghost calls: { Self → Calls Self.WorkTree Self.Lock } = { λ host. no_calls };
+    /// What is known to have been done: each call where its answer is, since nothing else gives it.
+    ghost did: { Self → Event Self.WorkTree Self.Lock → Type 0 } = { λ host event. ⊤ };
 
     /// Looks whether there is such a directory, or says why it is not to be had.
     fn look(&self, directory: &str) -> io::Result<()>
-        ensures { (calls self.now).looks directory.now result };
+        ensures { did self.now (Looked directory.now result) };
 
     /// A number that nobody can know before, or `None` where the system gives none. Without it whoever writes the files could
     /// choose names that collide.
     fn draw_seed(&self) -> Option<u64>
-        ensures { (calls self.now).draws result };
+        ensures { did self.now (Drew result) };
 
     /// The tree of a directory, which hashes by a seed.
     fn open(&self, alloc: Global, directory: &str, seed: u64) -> Result<Self::WorkTree, AllocError>
-        ensures { IfOk result ((calls self.now).opens directory.now seed) };
+        ensures { IfOk result (λ tree. did self.now (Opened directory.now seed tree)) };
 
-    /// Asks for a lock on a directory, and waits so many seconds for another program.
+    /// Asks for a lock on a directory, and waits so many seconds for another program. It is had as long as what is answered is
+    /// kept; that is `None` where the system knows no locks.
     fn lock(
         &self,
         work_tree: &mut Self::WorkTree,
         directory: &str,
         lock: DirectoryLock,
         seconds: u64,
-    ) -> Locking<Self::Lock>
-        ensures { (calls self.now).locks directory.now lock seconds work_tree.old result work_tree.new };
+    ) -> Result<Option<Self::Lock>, TryLockError>
+        ensures { did self.now (Locked directory.now lock seconds work_tree.old result work_tree.new) };
 
     /// What would be lost of the numbers in the directory, and in those below it.
     fn find_loss(
@@ -79,29 +70,11 @@ pub trait Host {
         work_tree: &mut Self::WorkTree,
         directory: &str,
     ) -> Result<Option<Loss>, AllocError>
-        ensures { IfOk result (λ found. (calls self.now).finds directory.now work_tree.old found work_tree.new) };
+        ensures { IfOk result (λ found. did self.now (Found directory.now work_tree.old found work_tree.new)) };
 
     /// Holds what was found at a path, so that it is not read again.
-    fn hold(&self, work_tree: &mut Self::WorkTree, script: Script)
-        ensures { (calls self.now).holds work_tree.old script.path.items (option_map (λ v. v.items) script.found) work_tree.new };
-}
-
-/// A tree, with the lock that its command needs.
-#[derive(Drop)]
-pub struct Entered<P, L> {
-    work_tree: P,
-    access: Option<Access>,
-    lock: Option<L>,
-}
-
-/// What came of entering a directory.
-#[derive(Drop)]
-pub enum Entry<P, L> {
-    Entered(Entered<P, L>),
-    NoDirectory(io::Error),
-    NoSeed,
-    Busy,
-    NoLock(io::Error),
+    fn hold(&self, work_tree: &mut Self::WorkTree, file: FoundFile)
+        ensures { did self.now (Held work_tree.old file.path.items (text_of file) work_tree.new) };
 }
 
 /// All that a command needs to run.
@@ -109,125 +82,86 @@ pub enum Entry<P, L> {
 pub struct Ready<P, L> {
     pub work_tree: P,
     pub dialect: Dialect,
-    /// Kept until the command has ended.
+    /// Kept until the command has ended. Where none was asked for, or the system knows none, there is none.
     pub lock: Option<L>,
 }
 
-/// What came of the start.
+/// Why a command doesn't run.
 #[derive(Drop)]
-pub enum Start<P, L> {
-    Ready(Ready<P, L>),
+pub enum Stop {
     /// The directory is not to be had, for this reason.
     NoDirectory(io::Error),
+    /// The system gives no random number.
     NoSeed,
-    /// Another program is at work in the directory.
-    Busy,
-    /// Nobody knows whether another program is, for this reason.
-    NoLock(io::Error),
+    /// Another program is at work in the directory, or nobody knows whether one is.
+    NoLock(TryLockError),
     /// The command would begin the numbers anew.
     Lost(Loss),
+    OutOfMemory,
 }
 
-/// What was looked at for the sake of numbers.
-#[derive(Drop)]
-pub enum Numbers {
-    /// Some would be lost.
-    Lost(Loss),
-    /// None would be lost, and this was found of auto.conf.
-    Kept(Option<Script>),
+impl From<AllocError> for Stop {
+    ghost use Rattle.ks_session.specs.declared.start.Stop.TheVariants.{OutOfMemory};
+
+    ghost from_gives = { λ _ e. e ≡ OutOfMemory };
+
+    fn from(_: AllocError) -> Stop {
+        Stop::OutOfMemory
+    }
 }
 
-/// The lock that is needed.
+/// Opens the tree of the directory.
+fn open_work_tree<H: Host>(
+    host: &H,
+    alloc: Global,
+    settings: &Settings,
+) -> Result<H::WorkTree, Stop>
+    ensures { Opens (H.did host.now) settings.now result }
+{
+    let directory = settings.directory.as_str();
+    if let Err(error) = host.look(directory) {
+        return Err(Stop::NoDirectory(error));
+    }
+    let Some(seed) = host.draw_seed() else {
+        return Err(Stop::NoSeed);
+    };
+    Ok(host.open(alloc, directory, seed)?)
+}
+
+/// Takes the lock that is needed.
 fn take_lock<H: Host>(
     host: &H,
     work_tree: &mut H::WorkTree,
     settings: &Settings,
-    access: &Option<Access>,
-) -> Locking<H::Lock>
-    ensures { Locks (H.calls host.now) settings.now access.now work_tree.old result work_tree.new }
+    needed: Option<DirectoryLock>,
+) -> Result<Option<H::Lock>, TryLockError>
+    ensures { Locks (H.did host.now) settings.now needed work_tree.old result work_tree.new }
 {
-    match access {
-        Some(access) => {
+    match needed {
+        Some(lock) => {
             let directory = settings.directory.as_str();
-            host.lock(work_tree, directory, access.lock, settings.seconds)
+            host.lock(work_tree, directory, lock, settings.seconds)
         }
-        None => Locking::Had(None),
+        None => Ok(None),
     }
 }
 
-/// Looks at the script, and then takes the lock.
-fn enter_work_tree<H: Host>(
-    host: &H,
-    alloc: Global,
-    mut work_tree: H::WorkTree,
-    settings: &Settings,
-    asked: &Result<Request, WordsError>,
-) -> Result<Entry<H::WorkTree, H::Lock>, AllocError>
-    requires { Opens (H.calls host.now) settings.now work_tree }
-    ensures { IfOk result (Enters H.WorkTree.Tree (H.calls host.now) H.WorkTree.reads settings.now asked.now) }
-{
-    let access = access_of(alloc, &mut work_tree, asked)?;
-    match take_lock(host, &mut work_tree, settings, &access) {
-        Locking::Had(lock) => Ok(Entry::Entered(Entered {
-            work_tree,
-            access,
-            lock,
-        })),
-        Locking::Busy => Ok(Entry::Busy),
-        Locking::Failed(error) => Ok(Entry::NoLock(error)),
-    }
-}
-
-/// Enters the directory, with the lock that the request needs.
-fn enter<H: Host>(
-    host: &H,
-    alloc: Global,
-    settings: &Settings,
-    asked: &Result<Request, WordsError>,
-) -> Result<Entry<H::WorkTree, H::Lock>, AllocError>
-    ensures { IfOk result (Enters H.WorkTree.Tree (H.calls host.now) H.WorkTree.reads settings.now asked.now) }
-{
-    let directory = settings.directory.as_str();
-    if let Err(error) = host.look(directory) {
-        return Ok(Entry::NoDirectory(error));
-    }
-    let Some(seed) = host.draw_seed() else {
-        return Ok(Entry::NoSeed);
-    };
-    let work_tree = host.open(alloc, directory, seed)?;
-    enter_work_tree(host, alloc, work_tree, settings, asked)
-}
-
-/// What was found of auto.conf, to be held as a script is.
-fn held_auto(alloc: Global, found: Option<Vec<u8>>) -> Result<Numbers, AllocError>
-    ensures { IfOk result (IsKept (option_map (λ v. v.items) found)) }
-{
-    let path = auto_path().to_vec(alloc)?;
-    Ok(Numbers::Kept(Some(Script { path, found })))
-}
-
-/// Looks whether numbers would begin anew, and if so for a file that holds one.
+/// Looks whether numbers would begin anew, and if so for a file that holds one. Returns what was found of auto.conf.
 fn look_for_numbers<H: Host>(
     host: &H,
     alloc: Global,
     work_tree: &mut H::WorkTree,
     directory: &str,
-) -> Result<Numbers, AllocError>
-    ensures { IfOk result (λ numbers. Looks H.WorkTree.Tree (H.calls host.now) H.WorkTree.reads directory.now work_tree.old numbers work_tree.new) }
+) -> Result<Option<FoundFile>, Stop>
+    ensures { Looks H.WorkTree.Tree (H.did host.now) H.WorkTree.reads directory.now work_tree.old result work_tree.new }
 {
-    let NextOption { begins, found } = match begins_anew(alloc, work_tree) {
-        Ok(beginning) => beginning,
-        Err(EngineError::OutOfMemory) => return Err(AllocError),
-        // The command that needs auto.conf tells why it can't be read.
-        Err(_) => return Ok(Numbers::Kept(None)),
-    };
-    if !begins {
-        return held_auto(alloc, found);
+    let auto = look_at(alloc, work_tree, auto_path())?;
+    if begins_anew(&auto) {
+        if let Some(loss) = host.find_loss(alloc, work_tree, directory)? {
+            return Err(Stop::Lost(loss));
+        }
     }
-    match host.find_loss(alloc, work_tree, directory)? {
-        Some(loss) => Ok(Numbers::Lost(loss)),
-        None => held_auto(alloc, found),
-    }
+    Ok(auto)
 }
 
 /// Whether what is asked for begins no numbers: a repair, and what marks.
@@ -243,19 +177,16 @@ fn begins_none(asked: &Result<Request, WordsError>) -> bool
     }
 }
 
-/// Whether a command that has this access could lose numbers: one that synchronises, unless they may begin again.
+/// Whether a command that has this lock could lose numbers: one that synchronises, unless they may begin again.
 fn needs_look(
     settings: &Settings,
     asked: &Result<Request, WordsError>,
-    access: &Option<Access>,
+    lock: Option<DirectoryLock>,
 ) -> bool
-    ensures { result ≡ needs_look settings.now.may_begin (begins_none asked.now) access.now }
+    ensures { result ≡ needs_look settings.now asked.now lock }
 {
     let allowed = settings.may_begin || begins_none(asked);
-    match access {
-        Some(access) => matches!(access.lock, DirectoryLock::Exclusive) && !allowed,
-        None => false,
-    }
+    matches!(lock, Some(DirectoryLock::Exclusive)) && !allowed
 }
 
 /// Looks for lost numbers where the command could lose some.
@@ -265,84 +196,56 @@ fn look_if_needed<H: Host>(
     work_tree: &mut H::WorkTree,
     settings: &Settings,
     asked: &Result<Request, WordsError>,
-    access: &Option<Access>,
-) -> Result<Numbers, AllocError>
-    ensures { IfOk result (λ numbers. LooksIf (needs_look settings.now.may_begin (begins_none asked.now) access.now) H.WorkTree.Tree (H.calls host.now) H.WorkTree.reads (string_bytes settings.now.directory) work_tree.old numbers work_tree.new) }
+    lock: Option<DirectoryLock>,
+) -> Result<Option<FoundFile>, Stop>
+    ensures { LooksIf (needs_look settings.now asked.now lock) H.WorkTree.Tree (H.did host.now) H.WorkTree.reads (string_bytes settings.now.directory)
+        work_tree.old result work_tree.new }
 {
-    if needs_look(settings, asked, access) {
+    if needs_look(settings, asked, lock) {
         look_for_numbers(host, alloc, work_tree, settings.directory.as_str())
     } else {
-        Ok(Numbers::Kept(None))
+        Ok(None)
     }
 }
 
-/// What is to be held: the script that was looked at, or else auto.conf.
-fn first_held(access: Option<Access>, auto: Option<Script>) -> Option<Script>
-    ensures { result ≡ first_held access auto }
-{
-    match access {
-        Some(
-            Access {
-                script: Some(script),
-                ..
-            },
-        ) => Some(script),
-        _ => auto,
-    }
-}
-
-/// Holds what was read, so that what runs is what was looked at.
-fn hold_readings<H: Host>(host: &H, work_tree: &mut H::WorkTree, held: Option<Script>)
-    ensures { Holds (H.calls host.now) held work_tree.old work_tree.new }
-{
-    if let Some(script) = held {
-        host.hold(work_tree, script);
-    }
-}
-
-/// Looks for lost numbers with the lock had, and holds what was read.
-fn prepare<H: Host>(
+/// Holds what was read, so that what runs is what was looked at: the script, or else auto.conf.
+fn hold_readings<H: Host>(
     host: &H,
-    alloc: Global,
-    settings: &Settings,
-    asked: &Result<Request, WordsError>,
-    entered: Entered<H::WorkTree, H::Lock>,
-) -> Result<Start<H::WorkTree, H::Lock>, AllocError>
-    requires { Enters H.WorkTree.Tree (H.calls host.now) H.WorkTree.reads settings.now asked.now (Entry.Entered entered) }
-    ensures { IfOk result (Starts H.WorkTree.Tree (H.calls host.now) H.WorkTree.reads settings.now asked.now) }
+    work_tree: &mut H::WorkTree,
+    script: Option<FoundFile>,
+    auto: Option<FoundFile>,
+)
+    ensures { HoldsFirst (H.did host.now) script auto work_tree.old work_tree.new }
 {
-    let Entered {
-        mut work_tree,
-        access,
-        lock,
-    } = entered;
-    match look_if_needed(host, alloc, &mut work_tree, settings, asked, &access)? {
-        Numbers::Lost(loss) => Ok(Start::Lost(loss)),
-        Numbers::Kept(auto) => {
-            hold_readings(host, &mut work_tree, first_held(access, auto));
-            Ok(Start::Ready(Ready {
-                work_tree,
-                dialect: settings.dialect,
-                lock,
-            }))
-        }
+    if let Some(script) = script {
+        host.hold(work_tree, script);
+    } else if let Some(auto) = auto {
+        host.hold(work_tree, auto);
     }
 }
 
-/// Comes to the directory, as what stands in front of the command and what is asked for need it.
+/// Comes to the directory, as what stands in front of the command and what is asked for need it: first the script is looked at, then
+/// the lock taken, and with that had it is looked for lost numbers.
 pub fn enter_directory<H: Host>(
     host: &H,
     alloc: Global,
     settings: &Settings,
     asked: &Result<Request, WordsError>,
-) -> Result<Start<H::WorkTree, H::Lock>, AllocError>
-    ensures { IfOk result (Starts H.WorkTree.Tree (H.calls host.now) H.WorkTree.reads settings.now asked.now) }
+) -> Result<Ready<H::WorkTree, H::Lock>, Stop>
+    ensures { Starts H.WorkTree.Tree (H.did host.now) H.WorkTree.reads settings.now asked.now result }
 {
-    match enter(host, alloc, settings, asked)? {
-        Entry::Entered(entered) => prepare(host, alloc, settings, asked, entered),
-        Entry::NoDirectory(error) => Ok(Start::NoDirectory(error)),
-        Entry::NoSeed => Ok(Start::NoSeed),
-        Entry::Busy => Ok(Start::Busy),
-        Entry::NoLock(error) => Ok(Start::NoLock(error)),
-    }
+    let mut work_tree = open_work_tree(host, alloc, settings)?;
+    let script = script_of(alloc, &mut work_tree, asked)?;
+    let needed = lock_needed(asked, &script);
+    let lock = match take_lock(host, &mut work_tree, settings, needed) {
+        Ok(lock) => lock,
+        Err(error) => return Err(Stop::NoLock(error)),
+    };
+    let auto = look_if_needed(host, alloc, &mut work_tree, settings, asked, needed)?;
+    hold_readings(host, &mut work_tree, script, auto);
+    Ok(Ready {
+        work_tree,
+        dialect: settings.dialect,
+        lock,
+    })
 }

@@ -16,7 +16,7 @@ use ks_commands::execute;
 use ks_errors::{DEVICE, KnownError, OUT_OF_MEMORY, Row};
 use ks_requests::Request;
 use ks_session::{
-    ArgError, CommandArgs, Loss, ParsedOptions, Ready, Settings, Stop, enter_directory,
+    ArgError, CommandArgs, Loss, Ready, Settings, Stop, enter_directory,
     parse_global_options,
 };
 use ks_streams::Stream;
@@ -205,10 +205,10 @@ fn run_in_directory(
 /// Runs the command that the arguments name, over the directory in front of it and the standard streams.
 fn run_args(rt: &HostRuntime, args: &[&str]) -> Result<u8, AllocError> {
     match parse_global_options(rt.alloc(), args)? {
-        ParsedOptions::Taken(CommandArgs { settings, args }) => {
+        Ok(CommandArgs { settings, args }) => {
             run_in_directory(rt, &settings, &request_of(rt.alloc(), args))
         }
-        ParsedOptions::Faulty(fault) => {
+        Err(fault) => {
             let _ = eprintln!(rt; "confstamp: {}", text_of(fault));
             Ok(2)
         }

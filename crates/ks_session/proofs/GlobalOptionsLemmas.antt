@@ -1,7 +1,7 @@
 -- Options one after the other.
 use Rattle.std.proofs.Common.{◌≡◌, ◌++◌, ◌∷◌, ◌+◌, ◌∙◌, [], ℕ, Bor, List, ap, drop, map, refl, sym, take}
 use Rattle.std.proofs.lemmas.List.{drop-drop, drop-map, take-append-drop}
-use Rattle.ks_session.specs.ParsedOptions.{Spells, SpellsAll, OptionView}
+use Rattle.ks_session.specs.GlobalOptions.{Spells, SpellsAll, OptionView}
 
 -- one more, which the rest begins with
 pub spelled_more : (args : List (List ℕ)) (options : List OptionView) (rest : List (List ℕ)) (count : ℕ) (o : OptionView)

@@ -1,5 +1,5 @@
 pub mod Directories
-pub mod ParsedOptions
+pub mod GlobalOptions
 pub mod Lock
 pub mod Numbers
 pub mod Calls

@@ -3,7 +3,7 @@
 //! said of a command's arguments holds of those after it.
 ghost use Rattle.std.specs.Prelude.{◌≡◌, ◌∷◌, codes, IfOk, OnOk, map, string_bytes};
 ghost use Rattle.ks_session.specs.Directories.{dialect_named};
-ghost use Rattle.ks_session.specs.ParsedOptions.{BeginsWith, ParsesGlobalOptions, nothing, stated, seen_option, seen_settings};
+ghost use Rattle.ks_session.specs.GlobalOptions.{BeginsWith, ParsesGlobalOptions, nothing, stated, seen_option, seen_settings};
 
 use crate::directory::below;
 use ks_symbols::{Dialect, read_decimal};
@@ -56,13 +56,6 @@ pub struct Settings {
 pub struct CommandArgs<'a> {
     pub settings: Settings,
     pub args: &'a [&'a str],
-}
-
-/// What was found in front of the command.
-#[derive(Drop)]
-pub enum ParsedOptions<'a> {
-    Taken(CommandArgs<'a>),
-    Faulty(ArgError),
 }
 
 /// The dialect of a name.
@@ -161,11 +154,11 @@ impl Settings {
     }
 }
 
-/// What the arguments say in front of the command.
+/// What the arguments say in front of the command, or why that is wrong.
 pub fn parse_global_options<'a>(
     alloc: Global,
     args: &'a [&'a str],
-) -> Result<ParsedOptions<'a>, AllocError>
+) -> Result<Result<CommandArgs<'a>, ArgError>, AllocError>
     ensures { IfOk result (ParsesGlobalOptions (map (λ w. w.now) args.entry.now)) }
 {
     let mut settings = Settings::new(alloc);
@@ -176,10 +169,10 @@ pub fn parse_global_options<'a>(
                 settings.take_over(alloc, option)?;
                 at += count;
             }
-            NextOption::Faulty(fault) => return Ok(ParsedOptions::Faulty(fault)),
+            NextOption::Faulty(fault) => return Ok(Err(fault)),
             NextOption::Command => break,
         }
     }
     let args = &args[at..];
-    Ok(ParsedOptions::Taken(CommandArgs { settings, args }))
+    Ok(Ok(CommandArgs { settings, args }))
 }

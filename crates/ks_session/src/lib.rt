@@ -9,7 +9,7 @@ mod numbers;
 mod start;
 
 pub use directory::below;
-pub use global_options::{ArgError, CommandArgs, ParsedOptions, Settings, parse_global_options};
+pub use global_options::{ArgError, CommandArgs, Settings, parse_global_options};
 pub use lock::{DirectoryLock, FoundFile, lock_needed, script_of};
 pub use numbers::{begins_anew, holds_number, is_another_tree};
 pub use start::{Host, Loss, Ready, Stop, enter_directory};

@@ -1,7 +1,7 @@
 use Rattle.std.proofs.Common.{◌++◌, ◌∷◌, ◌+◌, ◌≤◌, ◌∙◌, [], ℕ, Bor, List, ap, arith, drop, length, length-drop, map, subst, sym, take}
 use Rattle.std.proofs.lemmas.List.{length-map, take_rest}
 use Rattle.std.proofs.lemmas.List.Sums.{fold-append}
-use Rattle.ks_session.specs.ParsedOptions.{Spells, SpellsAll, nothing, stated, seen_option}
+use Rattle.ks_session.specs.GlobalOptions.{Spells, SpellsAll, nothing, stated, seen_option}
 use Rattle.ks_session.proofs.GlobalOptionsLemmas.{rest_after, spelled_more}
 use Rattle.ks_session.proofs.global_options.parse_global_options.Goals as goal
 

@@ -1,6 +1,6 @@
 use Rattle.std.proofs.Common.{length, ◌-◌, ◌≡◌, ◌≤◌, List, map, drop}
 use Rattle.std.specs.List.{fold}
-use Rattle.ks_session.specs.ParsedOptions.{SpellsAll, OptionView, nothing, stated, seen_settings}
+use Rattle.ks_session.specs.GlobalOptions.{SpellsAll, OptionView, nothing, stated, seen_settings}
 use Rattle.ks_session.proofs.global_options.parse_global_options.Given as goal
 
 abbrev pub invariant-loop-at : goal.invariant-loop-at

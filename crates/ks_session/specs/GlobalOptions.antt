@@ -1,5 +1,5 @@
 -- What stands in front of a command: options one after the other, and what they say together.
-use Rattle.std.specs.Prelude.{◌≡◌, ◌≢◌, ◌||◌, ◌++◌, ℕ, Bool, false, true, List, [], ◌∷◌, None, Some, bytes_eq, codes, length, map, string_bytes, take, ◌<◌, ◌≤◌, ⊤}
+use Rattle.std.specs.Prelude.{◌≡◌, ◌≢◌, ◌||◌, ◌++◌, ℕ, Bool, false, true, List, [], ◌∷◌, None, Some, Result, Ok, Err, bytes_eq, codes, length, map, string_bytes, take, ◌<◌, ◌≤◌, ⊤}
 use Rattle.std.specs.List.{fold}
 use Rattle.ks_symbols.specs.Decimal.{decimal_value}
 use Rattle.ks_symbols.specs.declared.dialect.Dialect.{Dialect}
@@ -7,8 +7,7 @@ use Rattle.ks_symbols.specs.declared.dialect.Dialect.TheVariants.{Linux}
 use Rattle.ks_session.specs.Directories.{below, dialect_named}
 use Rattle.ks_session.specs.declared.global_options.ArgError.{ArgError}
 use Rattle.ks_session.specs.declared.global_options.ArgError.TheVariants as fault
-use Rattle.ks_session.specs.declared.global_options.ParsedOptions.{ParsedOptions}
-use Rattle.ks_session.specs.declared.global_options.ParsedOptions.TheVariants as global_options
+use Rattle.ks_session.specs.declared.global_options.CommandArgs.{CommandArgs}
 use Rattle.ks_session.specs.declared.global_options.GlobalOption.{GlobalOption}
 use Rattle.ks_session.specs.declared.global_options.GlobalOption.TheVariants as seen
 use Rattle.ks_session.specs.declared.global_options.NextOption.{NextOption}
@@ -89,7 +88,7 @@ BeginsWith args beginning.Command = begins_option args ≡ false
 -- ---- the whole
 
 -- Options are taken off, up to arguments that begin with none; or one of them is faulty.
-abbrev pub ParsesGlobalOptions : List (List ℕ) → ParsedOptions → Type 0
-ParsesGlobalOptions args (global_options.Taken invocation) = (options : List OptionView) × SpellsAll args options (map (λ w. w.now) invocation.args.now)
-    × (begins_option (map (λ w. w.now) invocation.args.now) ≡ false) × (seen_settings invocation.settings ≡ fold stated nothing options)
-ParsesGlobalOptions args (global_options.Faulty fault) = (options : List OptionView) × (rest : List (List ℕ)) × SpellsAll args options rest × IsFaulty fault rest
+abbrev pub ParsesGlobalOptions : List (List ℕ) → Result CommandArgs ArgError → Type 0
+ParsesGlobalOptions args (Ok command) = (options : List OptionView) × SpellsAll args options (map (λ w. w.now) command.args.now)
+    × (begins_option (map (λ w. w.now) command.args.now) ≡ false) × (seen_settings command.settings ≡ fold stated nothing options)
+ParsesGlobalOptions args (Err fault) = (options : List OptionView) × (rest : List (List ℕ)) × SpellsAll args options rest × IsFaulty fault rest

@@ -16,8 +16,7 @@ use ks_commands::execute;
 use ks_errors::{DEVICE, KnownError, OUT_OF_MEMORY, Row};
 use ks_requests::Request;
 use ks_session::{
-    ArgError, CommandArgs, Loss, Ready, Settings, Stop, enter_directory,
-    parse_global_options,
+    ArgError, CommandArgs, Loss, Ready, Settings, Stop, enter_directory, parse_global_options,
 };
 use ks_streams::Stream;
 use ks_symbols::Dialect;

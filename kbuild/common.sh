@@ -2,6 +2,16 @@
 # What the hooks share; sourced by them.
 # shellcheck shell=sh disable=SC2034
 
+set -eu
+LC_ALL=C
+export LC_ALL
+
+# The head of a script is its help.
+if [ "${1-}" = --help ]; then
+    sed -n '1d; /^# SPDX/d; 2,3{/^#$/d;}; /^#/!q; s/^# \{0,1\}//; p' "$0"
+    exit
+fi
+
 case $0 in
 /*) here=${0%/*} ;;
 *) here=$(cd "$(dirname "$0")" && pwd) ;;
@@ -43,12 +53,6 @@ use_dialect() {
 dialect=
 [ ! -e "$dialects" ] || read -r dialect < "$dialects"
 use_dialect "$dialect"
-
-# The head of a script is its help.
-show_help() {
-    sed -n '1d; /^# SPDX/d; 2,3{/^#$/d;}; /^#/!q; s/^# \{0,1\}//; p' "$0"
-    exit
-}
 
 wrong_words() {
     echo "usage: kbuild/${0##*/} $1" >&2

@@ -113,8 +113,47 @@ find_there() {
     return 1
 }
 
-# list_targets DIR..: writes what was recorded there to $tmpdir/targets. If that is nothing, the hook ends.
-list_targets() {
+# each COMMAND..: runs it with the words that standard input has, one a line; not at all if there are none.
+each() {
+    tr '\n' '\0' | xargs -0 -r "$@"
+}
+
+# commands_of TARGET: `commands`, its command file.
+commands_of() {
+    case $1 in
+    */*) commands=${1%/*}/.${1##*/}.cmd ;;
+    *) commands=.$1.cmd ;;
+    esac
+}
+
+# The same for a list, and from the command files to the targets.
+to_commands() {
+    sed 's,[^/]*$,.&.cmd,' "$@"
+}
+to_targets() {
+    sed 's,\.\([^/ ]*\)\.cmd$,\1,' "$@"
+}
+
+# wants_table WORD: is it --by-directory?
+table=no
+wants_table() {
+    case $1 in
+    --by-directory | --by-folder) table=yes ;;
+    *) return 1 ;;
+    esac
+}
+
+# directories_of TARGETS: the directories of these files, and those above them.
+directories_of() {
+    awk 'BEGIN { print "." } { while (sub(/\/[^\/]*$/, "") && $0 != "" && !known[$0]++) print }' "$1"
+}
+
+# look_through USAGE DIR..: begins a hook that is asked about directories. What was recorded there is in `targets`. If that is nothing,
+# the hook ends.
+look_through() {
+    directories_only "$@"
+    shift
+    make_work_directory
     "$here/objects" "$@" > "$tmpdir/targets"
     if [ ! -s "$tmpdir/targets" ]; then
         nothing_here "$@"
@@ -138,14 +177,11 @@ recorded() {
         fi
     done < "$tmpdir/recorded" 3> "$tmpdir/targets" > "$tmpdir/answers"
     [ "$#" -gt 0 ] || set -- .
-    find_there -H "$@" \( -name '[!.]*.o' -o -name '.[!.]*.cmd' -size 0 \) -type f > "$tmpdir/objects" || exit 2
-    while read -r file; do
-        object=${file%/*}/${file##*/.}
-        case ${file##*/} in
-        .*) [ ! -e "${object%.cmd}" ] || echo "${object%.cmd}" ;;
-        *) [ -e "${file%/*}/.${file##*/}.cmd" ] || echo "$file" ;;
-        esac
-    done < "$tmpdir/objects" | sed 's,^\./,,' >> "$tmpdir/targets"
+    find_there -H "$@" \( -name '[!.]*.o' -o -name '.[!.]*.cmd' -size 0 \) -type f > "$tmpdir/found" || exit 2
+    to_targets "$tmpdir/found" | sed 's,^\./,,' | sort -u | while read -r object; do
+        commands_of "$object"
+        [ -s "$commands" ] || [ ! -e "$object" ] || echo "$object"
+    done >> "$tmpdir/targets"
 }
 
 # find_sources: where the sources are, in `sources`. Whoever isn't called by make has a link `source` in a build directory of its
@@ -228,15 +264,14 @@ run_conf() {
     esac
 }
 
-# declared: the names that the project's Kconfig files declare, in order, each once. Of a file that can't be read nobody knows them.
-declared() {
-    kconfigs > "$tmpdir/kconfigs" && tr '\n' '\0' < "$tmpdir/kconfigs" |
-        xargs -0 sed -nE 's/^[[:blank:]]*(menu)?config[[:blank:]]+([A-Za-z0-9_]+).*/\2/p' > "$tmpdir/names" && sort -u "$tmpdir/names"
-}
-
-# can_tell_declared: is it known here which names are declared?
+# can_tell_declared: are the names known here that the project's Kconfig files declare? `declared` has them, in order, each once. Of a file
+# that can't be read nobody knows them.
 can_tell_declared() {
-    [ -e "$read_kconfigs" ] && declared > "$tmpdir/declared" 2> "$tmpdir/messages" && [ -s "$tmpdir/declared" ]
+    {
+        [ -e "$read_kconfigs" ] && kconfigs > "$tmpdir/kconfigs" &&
+            each sed -nE 's/^[[:blank:]]*(menu)?config[[:blank:]]+([A-Za-z0-9_]+).*/\2/p' < "$tmpdir/kconfigs" > "$tmpdir/names" &&
+            sort -u "$tmpdir/names" > "$tmpdir/declared"
+    } 2> "$tmpdir/messages" && [ -s "$tmpdir/declared" ]
 }
 
 # Did the hooks make the last synchronisation? Linux's own tool writes auto.conf.cmd first, without the mark, and then
@@ -274,7 +309,7 @@ patiently() {
 # Of standard input, one a line: a time before all others, for each file that is there. It is second 1, since 0 says to some
 # tools that a file isn't there.
 age_files() {
-    tr '\n' '\0' | TZ=UTC0 xargs -0 -r touch -c -t 197001010000.01
+    each touch -c -d @1
 }
 
 # mark_due DIRECTORY [--unrecorded]: each object of DIRECTORY/targets that is stale by its record is due, and with --unrecorded also what is
@@ -290,10 +325,7 @@ mark_due() {
         { print > (directory "/part." int(count / 1000)); count++ }
     ' "$1/targets"
     while [ -n "${2:-}" ] && IFS= read -r object; do
-        case $object in
-        */*) commands=${object%/*}/.${object##*/}.cmd ;;
-        *) commands=.$object.cmd ;;
-        esac
+        commands_of "$object"
         [ ! -e "$commands" ] || { rm -f "$commands" && due=$((due + 1)); }
     done < "$1/refused"
     for part in "$1"/part.*; do
@@ -312,24 +344,23 @@ mark_due() {
 age_to_come() {
     : > "$1/now"
     tools_to_come "$1"
-    directories=$(awk '
-        BEGIN { print "." }
-        { while (sub(/\/[^\/]*$/, "") && $0 != "" && !($0 in known)) { known[$0]; print } }
-    ' "$2" | while read -r directory; do [ ! -r "$directory" ] || echo "$directory"; done)
+    directories=$(directories_of "$2" | while read -r directory; do [ ! -r "$directory" ] || echo "$directory"; done)
     # shellcheck disable=SC2086 # the list is words, and Kbuild takes no path with a blank
     find_there $directories -maxdepth 1 ! -name '*.[chS]' ! -name '.*.cmd' -type f -newer "$1/now" > "$1/newer" || return 1
     [ -s "$1/newer" ] || return 0
-    sed 's,^\./,,' "$1/newer" > "$1/to-come"
-    awk 'NR == FNR { recorded[$0]; next } !($0 in recorded)' "$2" "$1/to-come" |
-        while read -r product; do
-            case $product in
-            busybox | busybox_unstripped) commands=$product ;;
-            */*) commands=${product%/*}/.${product##*/}.cmd ;;
-            *) commands=.$product.cmd ;;
-            esac
-            [ ! -e "$commands" ] || echo "$product"
-        done | age_files
-    awk 'NR == FNR { recorded[$0]; next } $0 in recorded' "$2" "$1/to-come" > "$1/ahead"
+    : > "$1/ahead"
+    awk -v ahead="$1/ahead" '
+        FILENAME == ARGV[1] { recorded[$0]; next }
+        { sub(/^\.\//, "") }
+        $0 in recorded { print > ahead; next }
+        { print }
+    ' "$2" "$1/newer" | while read -r product; do
+        case $product in
+        busybox | busybox_unstripped) commands=$product ;;
+        *) commands_of "$product" ;;
+        esac
+        [ ! -e "$commands" ] || echo "$product"
+    done | age_files
     [ ! -s "$1/ahead" ] || bring_to_now "$1"
 }
 
@@ -341,9 +372,9 @@ tools_to_come() {
         [ -f "$tool" ] || continue
         [ -z "$(find "$tool" -newer "$1/now")" ] || touch -c "$tool"
         find "${tool%/*}" -name '*.o' -type f -newer "$1/now" | while read -r object; do
-            written=${object%/*}/.${object##*/}.cmd
-            [ -n "$(find "$written" ! -newer "$1/now" 2> /dev/null)" ] || written=$tool
-            touch -c -r "$written" "$object"
+            commands_of "$object"
+            [ -n "$(find "$commands" ! -newer "$1/now" 2> /dev/null)" ] || commands=$tool
+            touch -c -r "$commands" "$object"
         done
     done
 }
@@ -352,39 +383,31 @@ tools_to_come() {
 # the packed kernel of the boot code. So it gets the present time. Where such a file has a future mtime as well make would compile
 # the object each time until then, so it keeps its own.
 bring_to_now() {
-    sed 's,[^/]*$,.&.cmd,' "$1/ahead" | tr '\n' '\0' | xargs -0 awk '
-        FNR == 1 { target = FILENAME; sub(/\.cmd$/, "", target); match(target, /[^\/]*$/)
-            target = substr(target, 1, RSTART - 1) substr(target, RSTART + 1) }
-        /^source_[^ ]* := / { print $3, target }
-        /^  [^ $]+ \\$/ { print $1, target }
-        sub(/.*: \$\(wildcard /, "") { sub(/\).*/, ""); print $1, target }
-    ' 2> /dev/null > "$1/made-of" || :
-    awk '!seen[$1]++ { print $1 }' "$1/made-of" | tr '\n' '\0' |
-        xargs -0 -r sh -c 'find "$@" -prune -newer "$0" 2> /dev/null || :' "$1/now" > "$1/files-ahead"
+    to_commands "$1/ahead" | each awk '
+        /^source_[^ ]* := / { print $3, FILENAME }
+        /^  [^ $]+ \\$/ { print $1, FILENAME }
+        sub(/.*: \$\(wildcard /, "") { sub(/\).*/, ""); print $1, FILENAME }
+    ' 2> /dev/null | to_targets > "$1/made-of"
+    cut -d ' ' -f 1 "$1/made-of" | sort -u | each sh -c 'find "$@" -prune -newer "$0" 2> /dev/null || :' "$1/now" > "$1/files-ahead"
     awk '
         FILENAME == ARGV[1] { ahead[$1]; next }
         FILENAME == ARGV[2] { known[$2]; if ($1 in ahead) kept[$2]; next }
         $0 in known && !($0 in kept)
-    ' "$1/files-ahead" "$1/made-of" "$1/ahead" | tr '\n' '\0' | xargs -0 -r touch -c
+    ' "$1/files-ahead" "$1/made-of" "$1/ahead" | each touch -c
 }
 
-# listing WORD..: of the files that find WORD.. finds lines `MTIME CTIME PATH`, to the nanosecond. What is gone meanwhile has none.
-as_listed='%Y %y|%Z %z|%n'
+# listing WORD..: of the files that find WORD.. finds lines `MTIME CTIME PATH`, to the nanosecond; with_times: of those of a list. What is gone
+# meanwhile has none.
 listing() {
-    find "$@" -exec stat -c "$as_listed" {} + | as_listing
+    find "$@" -print | with_times
 }
-as_listing() {
-    sed 's/^\([0-9]*\) [^.|]*\(\.[0-9]*\)[^|]*|\([0-9]*\) [^.|]*\(\.[0-9]*\)[^|]*|/\1\2 \3\4 /'
-}
-
-# newer_than FILE: of such lines the paths of what has a later mtime.
-newer_than() {
-    awk -v since="$(time_of "$1")" '$1 > since + 0 { sub(/^[^ ]* [^ ]* /, ""); print }'
+with_times() {
+    each stat -c '%Y %y|%Z %z|%n' 2> /dev/null | sed 's/^\([0-9]*\) [^.|]*\(\.[0-9]*\)[^|]*|\([0-9]*\) [^.|]*\(\.[0-9]*\)[^|]*|/\1\2 \3\4 /'
 }
 
 # time_of FILE: its mtime, or nothing.
 time_of() {
-    listing "$1" 2> /dev/null | cut -d ' ' -f 1
+    echo "$1" | with_times | cut -d ' ' -f 1
 }
 
 # The witness is a file that holds its own mtime, so where it was copied to one can see whether mtimes were kept. In a file system without
@@ -416,7 +439,26 @@ difference_of_config() {
     fi
 }
 
-# by_directory ANSWERS: prints a table of the directories with stale objects: how many are stale, of how many, and the three symbols that
+# by_count: how often each word of standard input stands there, the most frequent first.
+by_count() {
+    awk '{ count[$1]++ } END { for (word in count) printf "%7d %s\n", count[word], word }' | sort -k1,1nr -k2
+}
+
+# count_answers ANSWERS [WANTED]: prints how many objects are in which state. Status: 0 all are fresh, 1 some are stale, 2 some are
+# refused, nothing was answered, or less than was wanted.
+count_answers() {
+    awk -v wanted="${2:-1}" '
+        /^ / { next }
+        { answers++ }
+        { count[$2]++ }
+        END {
+            printf "%d objects: %d fresh, %d stale, %d refused\n", answers, count["fresh"], count["stale"], count["refused"]
+            exit answers < wanted || count["refused"] ? 2 : count["stale"] > 0
+        }
+    ' "$1"
+}
+
+# by_directory: of answers a table of the directories with stale objects: how many are stale, of how many, and the three symbols that
 # most of them are stale by. The directory with the most comes first.
 by_directory() {
     awk '
@@ -433,7 +475,7 @@ by_directory() {
                 print stale[part[1]], all[part[1]], part[1], by[pair], part[2]
             }
         }
-    ' "$1" | sort -k1,1nr -k3,3 -k4,4nr -k5,5 | awk '
+    ' | sort -k1,1nr -k3,3 -k4,4nr -k5,5 | awk '
         $3 != directory { if (directory != "") print line; directory = $3; shown = 0; line = sprintf("%7d of %5d %s:", $1, $2, $3) }
         shown++ < 3 { line = line (shown > 1 ? ", " : " ") $5 }
         shown == 4 { line = line ", .." }
@@ -441,30 +483,18 @@ by_directory() {
     '
 }
 
-# makefiles_of_targets: the makefiles of the directories of `targets`, and of those above them.
-makefiles_of_targets() {
-    awk '{ directory = "./" $0; while (sub(/\/[^\/]*$/, "", directory)) if (!seen[directory]++) print directory }' "$tmpdir/targets" |
-        while read -r directory; do
-            for makefile in Kbuild Makefile; do
-                [ ! -f "$sources/$directory/$makefile" ] || echo "$directory $sources/$directory/$makefile"
-            done
-        done
-}
-
 # builds_of_targets: how the configuration changes the build of an object of `targets`, by the lines `obj-$(CONFIG_X) += x.o` of
 # makefiles: `x.o n` where none builds it by .config, and `x.o X=m` or `x.o X=y` where it is built in by one of .config and the
 # synchronised configuration, and part of a module by the other. A line whose symbol isn't plain counts as y, and so does a
-# directory, or an object, that no line names. ask_conf comes before.
+# directory, or an object, that no line names, and an external module, whose symbols may be words of make. ask_conf comes before.
 builds_of_targets() {
-    makefiles_of_targets > "$tmpdir/makefiles"
-    awk -v makefiles="$tmpdir/makefiles" -v synchronised="$auto" -v wanted="$asked_config" '
-        function read_values(time, file,    line, name) {
-            while ((getline line < file) > 0) {
-                if (line !~ /^CONFIG_[A-Za-z0-9_]+=[ym]$/) continue
-                name = substr(line, 8, length(line) - 9)
-                value[time, name] = substr(line, length(line))
-            }
-        }
+    makefiles=$(directories_of "$tmpdir/targets" | sed '/^\.\./d' | while read -r directory; do
+        for makefile in Kbuild Makefile; do
+            [ ! -f "$sources/$directory/$makefile" ] || echo "$sources/$directory/$makefile"
+        done
+    done)
+    # shellcheck disable=SC2086 # the list is words, and Kbuild takes no path with a blank
+    awk -v sources="$sources/" '
         # A path without `.` and `..`.
         function plain(path) {
             while (sub(/\/\.?\//, "/", path)) continue
@@ -473,7 +503,7 @@ builds_of_targets() {
             return path
         }
         # stem-selector += words
-        function read_line(directory, line,    equals, name, words, count, place, dash, stem, selector, whole) {
+        function read_line(directory, line,    equals, name, words, count, place, dash, stem, selector, whole, path) {
             sub(/[ \t]*#.*/, "", line)
             if (line !~ /^[ \t]*[A-Za-z0-9_\/.-]+-[^ \t:=+?]+[ \t]*[:+?]?=/) return
             equals = index(line, "=")
@@ -486,22 +516,11 @@ builds_of_targets() {
             whole = stem ~ /^(obj|lib|extra|always|core|libs|drivers|net|targets|hostprogs)$/ ? "" : plain(directory "/" stem ".o")
             for (place = 1; place <= count; place++) {
                 if (words[place] !~ /\.o$|\/$/) continue
-                list(plain(directory "/" words[place]), whole, selector)
+                path = plain(directory "/" words[place])
+                lines[path]++
+                of[path, lines[path]] = whole
+                by[path, lines[path]] = selector
             }
-        }
-        function list(path, whole, selector) {
-            lines[path]++
-            of[path, lines[path]] = whole
-            by[path, lines[path]] = selector
-        }
-        function read_makefile(directory, file,    line, text) {
-            text = ""
-            while ((getline line < file) > 0) {
-                if (line ~ /\\$/) { text = text substr(line, 1, length(line) - 1) " "; continue }
-                read_line(directory, text line)
-                text = ""
-            }
-            close(file)
         }
         function selected(time, selector,    name) {
             if (selector !~ /^\$\(CONFIG_[A-Za-z0-9_]+\)$/) return "y"
@@ -524,10 +543,19 @@ builds_of_targets() {
             while (sub(/[^\/]+\/?$/, "", path) && path != "") if (built(time, path, 0) == "n") return "n"
             return "y"
         }
-        BEGIN {
-            read_values("old", synchronised)
-            read_values("new", wanted)
-            while ((getline line < makefiles) > 0) { split(line, part, " "); read_makefile(part[1], part[2]) }
+        FILENAME == ARGV[1] || FILENAME == ARGV[2] {
+            time = FILENAME == ARGV[1] ? "old" : "new"
+            if (/^CONFIG_[A-Za-z0-9_]+=[ym]$/) value[time, substr($0, 8, length($0) - 9)] = substr($0, length($0))
+            next
+        }
+        FILENAME ~ /\/(Kbuild|Makefile)$/ {
+            text = (FNR == 1 ? "" : text) $0
+            if (sub(/\\$/, " ", text)) next
+            directory = substr(FILENAME, length(sources) + 1)
+            sub(/[^\/]*$/, "", directory)
+            read_line(directory, text)
+            text = ""
+            next
         }
         {
             reason = ""
@@ -538,5 +566,5 @@ builds_of_targets() {
             old = built("old", $1, 0)
             if (old != "n" && old != new && reason != "") print $1, reason "=" new
         }
-    ' "$tmpdir/targets"
+    ' "$auto" "$asked_config" $makefiles "$tmpdir/targets"
 }

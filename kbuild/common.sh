@@ -6,9 +6,11 @@ set -eu
 LC_ALL=C
 export LC_ALL
 
-# The head of a script is its help.
+# The head of a script is its help, and this holds for all of them.
 if [ "${1-}" = --help ]; then
     sed -n '1d; /^# SPDX/d; 2,3{/^#$/d;}; /^#/!q; s/^# \{0,1\}//; p' "$0"
+    echo
+    echo 'Run it in the directory where make runs. CONFSTAMP is the program, if it is another than the one installed with this hook.'
     exit
 fi
 

@@ -42,6 +42,11 @@ report() {
     echo "kbuild/${0##*/}: $*" >&2
 }
 
+refuse() {
+    report "$*"
+    exit 2
+}
+
 # use_dialect DIALECT: the project of the tree. BusyBox's tool has fixed paths for .config and for the list of the Kconfig
 # files that it has read.
 use_dialect() {
@@ -69,18 +74,13 @@ directories_only() {
         case $word in
         -*) wrong_words "$usage" ;;
         esac
-        if [ ! -d "$word" ]; then
-            report "there is no directory $word"
-            exit 2
-        fi
+        [ -d "$word" ] || refuse "there is no directory $word"
     done
 }
 
 # No hook can do without the program.
 need_program() {
-    command -v "$confstamp" > /dev/null && return
-    report "$confstamp is missing: install it again, or take the hooks out (install-hooks -R)"
-    exit 2
+    command -v "$confstamp" > /dev/null || refuse "$confstamp is missing: install it again, or take the hooks out (install-hooks -R)"
 }
 
 # $tmpdir: a directory that goes when the hook ends. A TMPDIR that the program can't name, or that can't be written, is left aside, as the
@@ -104,10 +104,7 @@ find_there() {
     [ "$ended" != 0 ] || return 0
     complaints=${complaints:-find ended with $ended}
     others=$(echo "$complaints" | sed '/^find: .*: No such file or directory$/d' | while IFS= read -r line; do
-        path=${line#find: }
-        path=${path%: Permission denied}
-        path=${path#\'}
-        path=${path%\'}
+        path=$(echo "$line" | sed "s/^find: '*//; s/'*: Permission denied\$//")
         { [ -d "$path" ] && [ ! -x "$path" ]; } || echo "$line"
     done) || others=$complaints
     [ -n "$others" ] || return 0
@@ -157,14 +154,10 @@ look_through() {
     shift
     make_work_directory
     "$here/objects" "$@" > "$tmpdir/targets"
-    if [ ! -s "$tmpdir/targets" ]; then
-        nothing_here "$@"
-        exit 2
-    fi
+    [ -s "$tmpdir/targets" ] || refuse "$(nothing_here "$@")"
 }
-
 nothing_here() {
-    report "nothing was recorded below ${*:-.}: run it in the directory where make runs"
+    echo "nothing was recorded below ${*:-.}: run it in the directory where make runs"
 }
 
 # recorded DIR..: writes the recorded objects that exist to `targets`, the others to `answers`. Objects that were never recorded, or whose
@@ -235,20 +228,14 @@ END
         /*) srctree=$sources ;;
         *) srctree=$here_now/$sources ;;
         esac
-        KCONFIG_CONFIG=.config
-        KCONFIG_AUTOCONFIG=$auto
-        KCONFIG_AUTOHEADER=include/generated/autoconf.h
-        KCONFIG_RUSTCCFG=include/generated/rustc_cfg
-        export srctree KCONFIG_CONFIG KCONFIG_AUTOCONFIG KCONFIG_AUTOHEADER KCONFIG_RUSTCCFG
+        export srctree KCONFIG_CONFIG=.config KCONFIG_AUTOCONFIG="$auto"
+        export KCONFIG_AUTOHEADER=include/generated/autoconf.h KCONFIG_RUSTCCFG=include/generated/rustc_cfg
         run_conf
     ) > "$tmpdir/messages" 2>&1 < /dev/null || return 1
-    case $dialect in
-    busybox) set -- .config include/autoconf.h ;;
-    *) set -- "$auto" include/generated/autoconf.h ;;
-    esac
     asked_config=$aside/.config
-    asked_first=$aside/$1
-    asked_second=$aside/$2
+    asked_first=$aside/$auto
+    asked_second=$aside/include/generated/autoconf.h
+    [ "$dialect" != busybox ] || { asked_first=$asked_config && asked_second=$aside/include/autoconf.h; }
 }
 
 # An auto.conf that says what .config says gives conf no stamp to make.
@@ -280,15 +267,11 @@ can_tell_declared() {
 # empties stamps; auto.conf comes last. BusyBox's own tools leave auto.conf as it was, but their split-include empties each header
 # in include/config that is no symbol's. Where the hooks call it they write theirs anew.
 synchronised() {
-    case $dialect in
-    '')
-        case $(grep -hsx -e '#generation .*' -e "$mark" "$auto" "$auto.cmd") in
-        '#generation '*"$mark") ;;
-        *) return 1 ;;
-        esac
-        ;;
-    busybox) [ -s "$split" ] && grep -qs '^#generation ' "$auto" ;;
-    *) grep -qs '^#generation ' "$auto" ;;
+    case $dialect:$(grep -hsx -e '#generation .*' -e "$mark" "$auto" "$auto.cmd") in
+    :'#generation '*"$mark") ;;
+    busybox:'#generation '*) [ -s "$split" ] ;;
+    ?*:'#generation '*) ;;
+    *) return 1 ;;
     esac
 }
 
@@ -357,11 +340,8 @@ age_to_come() {
         $0 in recorded { print > ahead; next }
         { print }
     ' "$2" "$1/newer" | while read -r product; do
-        case $product in
-        busybox | busybox_unstripped) commands=$product ;;
-        *) commands_of "$product" ;;
-        esac
-        [ ! -e "$commands" ] || echo "$product"
+        commands_of "$product"
+        { [ ! -e "$commands" ] && [ "${product%_unstripped}" != busybox ]; } || echo "$product"
     done | age_files
     [ ! -s "$1/ahead" ] || bring_to_now "$1"
 }

@@ -406,18 +406,13 @@ difference_of_config() {
         echo 'nothing was synchronised yet'
     elif [ ! -f "$config" ]; then
         echo 'there is none'
-    elif ! grep -qsxFf "$generation_file" "$auto" || ! cmp -s "$config" "$synced_config"; then
-        {
-            if ask_conf; then
-                "$confstamp" ${dialect:+--dialect "$dialect"} diff --written "$asked_first" "$asked_second" 2>&1 ||
-                    echo "confstamp diff ended with $?"
-            else
-                echo "conf can't read it: $(tail -n 1 "$tmpdir/messages")"
-            fi
-        } | awk '
-            { if (!count++) first = substr($0, 1, 120) }
-            END { if (count) print first (count > 1 ? ", and " count - 1 " more" : "") }
-        '
+    elif grep -qsxFf "$generation_file" "$auto" && cmp -s "$config" "$synced_config"; then
+        return
+    elif ask_conf; then
+        { "$confstamp" ${dialect:+--dialect "$dialect"} diff --written "$asked_first" "$asked_second" 2>&1 || echo "confstamp diff ended with $?"; } |
+            awk 'NR == 1 { first = substr($0, 1, 120) } END { if (NR) print first (NR > 1 ? ", and " NR - 1 " more" : "") }'
+    else
+        printf '%.120s\n' "conf can't read it: $(tail -n 1 "$tmpdir/messages")"
     fi
 }
 

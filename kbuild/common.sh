@@ -460,18 +460,19 @@ by_directory() {
     '
 }
 
-# builds_of_targets: how the configuration changes the build of an object of `targets`, by the lines `obj-$(CONFIG_X) += x.o` of
-# makefiles: `x.o n` where none builds it by .config, and `x.o X=m` or `x.o X=y` where it is built in by one of .config and the
-# synchronised configuration, and part of a module by the other. A line whose symbol isn't plain counts as y, and so does a
+# judge_builds: of the answers about `targets` those that the configuration changes by the lines `obj-$(CONFIG_X) += x.o` of makefiles.
+# A stale object is `left` if none builds it by .config, and a fresh one `stale X=m` or `stale X=y` if it is built in by one of .config
+# and the synchronised configuration, and part of a module by the other. A line whose symbol isn't plain counts as y, and so does a
 # directory, or an object, that no line names, and an external module, whose symbols may be words of make. ask_conf comes before.
-builds_of_targets() {
+judge_builds() {
     makefiles=$(directories_of "$tmpdir/targets" | sed '/^\.\./d' | while read -r directory; do
         for makefile in Kbuild Makefile; do
             [ ! -f "$sources/$directory/$makefile" ] || echo "$sources/$directory/$makefile"
         done
     done)
+    grep -s '^CONFIG_[A-Za-z0-9_]*=[ym]$' "$auto" "$asked_config" > "$tmpdir/values" || :
     # shellcheck disable=SC2086 # the list is words, and Kbuild takes no path with a blank
-    awk -v sources="$sources/" '
+    awk -v sources="$sources/" -v synchronised="$auto" '
         # A path without `.` and `..`.
         function plain(path) {
             while (sub(/\/\.?\//, "/", path)) continue
@@ -520,9 +521,10 @@ builds_of_targets() {
             while (sub(/[^\/]+\/?$/, "", path) && path != "") if (built(time, path, 0) == "n") return "n"
             return "y"
         }
-        FILENAME == ARGV[1] || FILENAME == ARGV[2] {
-            time = FILENAME == ARGV[1] ? "old" : "new"
-            if (/^CONFIG_[A-Za-z0-9_]+=[ym]$/) value[time, substr($0, 8, length($0) - 9)] = substr($0, length($0))
+        FILENAME == ARGV[1] {
+            time = index($0, synchronised ":") == 1 ? "old" : "new"
+            sub(/.*:CONFIG_/, "")
+            value[time, substr($0, 1, length($0) - 2)] = substr($0, length($0))
             next
         }
         FILENAME ~ /\/(Kbuild|Makefile)$/ {
@@ -535,13 +537,13 @@ builds_of_targets() {
             next
         }
         {
-            reason = ""
             new = built("new", $1, 0)
             if (above("new", $1) == "n") new = "n"
-            if (new == "n") { print $1, "n"; next }
             reason = ""
             old = built("old", $1, 0)
-            if (old != "n" && old != new && reason != "") print $1, reason "=" new
+            if (new == "n" && $2 == "stale") $0 = $1 " left"
+            if (new != "n" && $2 == "fresh" && old != "n" && old != new && reason != "") $0 = $1 " stale " reason "=" new
+            print
         }
-    ' "$auto" "$asked_config" $makefiles "$tmpdir/targets"
+    ' "$tmpdir/values" $makefiles "$tmpdir/answers"
 }

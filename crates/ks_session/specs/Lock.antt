@@ -20,10 +20,10 @@ text_of file = option_map (λ v. v.items) file.text
 abbrev pub Readings : Type 0 → Type 1
 Readings P = P → List ℕ → P → Type 0
 
--- What is held of a file is what an honest tree has there. Nothing is held only where that is too large, or the tree has failed.
+-- What is held of a file is what an honest tree has there. Nothing is held only where that is too large, or the tree, honest or not, has failed.
 abbrev pub Holds : {P : Type 0} → Ghosts P → List ℕ → P → P → Option FoundFile → Type 0
 Holds tree path old new (Some file) = (file.path.items ≡ path) × (tree.is_honest → text_of file ≡ content (tree.files old) path)
-Holds tree path old new None = tree.is_honest → IsTooLarge (content (tree.files old) path) ⊎ HasRisen (tree.failures old) (tree.failures new)
+Holds tree path old new None = (tree.is_honest → IsTooLarge (content (tree.files old) path)) ⊎ HasRisen (tree.failures old) (tree.failures new)
 
 -- A file was read, once, and nothing else asked of the tree. What one reading does is the tree's to say.
 abbrev pub LooksAt : {P : Type 0} → Ghosts P → Readings P → List ℕ → P → P → Option FoundFile → Type 0

@@ -90,6 +90,12 @@ form_of rows = if is_set (codes "written") rows then form.Written else form.Kcon
 abbrev pub AreConfig : List Row → ConfigPaths → Type 0
 AreConfig rows c = (c.form ≡ form_of rows) × (string_bytes c.first ≡ arg_at (codes "KCONFIG") rows) × (string_bytes c.second ≡ arg_at (codes "DOTCONFIG") rows)
 
+-- .. where they are named; a second one that isn't there is a path of no bytes, which is none
+abbrev pub AreNamedConfig : List Row → Option ConfigPaths → Type 0
+AreNamedConfig rows None = first_of (codes "KCONFIG") rows ≡ None
+AreNamedConfig rows (Some c) = (c.form ≡ form_of rows) × (first_of (codes "KCONFIG") rows ≡ Some (string_bytes c.first))
+    × (string_bytes c.second ≡ arg_at (codes "DOTCONFIG") rows)
+
 -- whether `sync` is asked for a stamp of each declared symbol by what conf wrote, which doesn't say what is declared
 abbrev pub asks_both : List Row → Bool
 asks_both rows = is_set (codes "stamps") rows && is_set (codes "written") rows
@@ -110,7 +116,7 @@ scope_of rows = if is_set (codes "unrecorded") rows then backdates.Unrecorded el
 abbrev pub IsNoOther : Text → Type 0
 IsNoOther name = All (λ other. name ≢ other)
     (codes "sync" ∷ codes "preview" ∷ codes "diff" ∷ codes "fixdep" ∷ codes "record" ∷ codes "depfile" ∷ codes "batch" ∷ codes "outdated"
-    ∷ codes "why" ∷ codes "impact" ∷ codes "age" ∷ codes "users" ∷ codes "cost" ∷ codes "backdate" ∷ codes "explain" ∷ codes "repair" ∷ codes "mark" ∷ [])
+    ∷ codes "why" ∷ codes "impact" ∷ codes "age" ∷ codes "users" ∷ codes "cost" ∷ codes "backdate" ∷ codes "explain" ∷ codes "repair" ∷ codes "mark" ∷ codes "status" ∷ [])
 
 -- what was kept is named by both words; a header that isn't there is a path of no bytes, which is none
 abbrev pub AreKept : List Row → Option KeptPaths → Type 0
@@ -143,6 +149,7 @@ IsRequestOf command rows (request.Sync c stamps) = (command ≡ codes "sync") ×
 IsRequestOf command rows (request.Preview c o) = (command ≡ codes "preview") × AreConfig rows c
     × (option_map (λ path. string_bytes path) o ≡ first_of (codes "OLDAUTO") rows)
 IsRequestOf command rows (request.Diff c report_style) = (command ≡ codes "diff") × AreConfig rows c × (report_style ≡ report_style_of rows)
+IsRequestOf command rows (request.Status c) = (command ≡ codes "status") × AreNamedConfig rows c
 IsRequestOf command rows (request.Fixdep d t c) = (command ≡ codes "fixdep")
     × (string_bytes d ≡ arg_at (codes "DEPFILE") rows) × (string_bytes t ≡ arg_at (codes "TARGET") rows)
     × (string_bytes c ≡ arg_at (codes "COMMAND") rows)

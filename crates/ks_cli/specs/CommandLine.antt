@@ -1,6 +1,5 @@
 -- The command line as `clap` sees it. The names are this project's.
 use Rattle.std.specs.Prelude.{List, [], ◌∷◌, codes, true, fold, map, Option, Some, None}
-use Rattle.std.specs.Borrow.{Bor}
 use Rattle.clap.specs.Words.{App, Rule, Text, new_app, new_rule, with_rule, with_subcommand}
 use Rattle.clap.specs.Simple.{on_top}
 use Rattle.clap.specs.Lexer.{usize_max}
@@ -64,13 +63,9 @@ taking name rules = fold with_rule (new_app name) rules
 abbrev pub needing_one : App → App
 needing_one app = on_top (λ s. record s { arg_required_else_help = true }) app
 
-abbrev pub needing_one_if : Option (Bor Text) → App → App
-needing_one_if None app = app
-needing_one_if (Some call) app = needing_one app
-
 -- the command of a row of the program's table
 abbrev pub usage_app : Usage → App
-usage_app usage = needing_one_if usage.override_usage (taking usage.name.now (map arg_rule usage.args.now))
+usage_app usage = on_top (λ s. record s { arg_required_else_help = usage.needs_args }) (taking usage.name.now (map arg_rule usage.args.now))
 
 -- a command line with these commands below it
 abbrev pub with_all : App → List App → App
@@ -88,6 +83,7 @@ writing_apps =
     ∷ needing_one (taking (codes "preview") (flag (codes "written") ∷ once (codes "KCONFIG") ∷ once (codes "DOTCONFIG") ∷ at_most_once (codes "OLDAUTO") ∷ []))
     ∷ needing_one (taking (codes "diff") (flag (codes "exit-code") ∷ flag (codes "quiet") ∷ flag (codes "written") ∷ once (codes "KCONFIG")
     ∷ once (codes "DOTCONFIG") ∷ []))
+    ∷ taking (codes "status") (flag (codes "written") ∷ at_most_once (codes "KCONFIG") ∷ at_most_once (codes "DOTCONFIG") ∷ [])
     ∷ taking (codes "fixdep") (once (codes "DEPFILE") ∷ once (codes "TARGET") ∷ once (codes "COMMAND") ∷ [])
     ∷ needing_one (taking (codes "record") (flag (codes "remove-depfile") ∷ flag (codes "cmd") ∷ flag (codes "before-sync") ∷ once (codes "DEPFILE") ∷ once (codes "TARGET")
     ∷ once (codes "COMMAND") ∷ []))

@@ -5,7 +5,7 @@ ghost use Rattle.clap.specs.Walk.{texts};
 ghost use Rattle.ks_requests.specs.Requests.{IsBatchOf, IsPreviewOf};
 ghost use Rattle.ks_cli.specs.CommandLine.{command_line_app};
 ghost use Rattle.ks_cli.specs.Meaning.{IsBothReported, IsPageNamed, IsPageReported, IsReason, IsTakenAs, Makes};
-ghost use Rattle.ks_cli.specs.Args.{AreConfig, AreKept, AreStrict, AreTargets, IsPlainArg, IsRequestOf, HasText, IsReported, IsWantOfMemory, asks_both, is_no_memory, is_set, report_style_of, arg_at, args_at, format_of, scope_of, IsNumberOf};
+ghost use Rattle.ks_cli.specs.Args.{AreConfig, AreKept, AreNamedConfig, AreStrict, AreTargets, IsPlainArg, IsRequestOf, HasText, IsReported, IsWantOfMemory, asks_both, is_no_memory, is_set, report_style_of, arg_at, args_at, form_of, format_of, scope_of, IsNumberOf};
 
 use crate::command_line::command_line;
 use crate::help_text::HelpText;
@@ -135,15 +135,36 @@ fn format(matches: &ArgMatches<'_>) -> OutputFormat
     chosen(matches, "json", OutputFormat::Json, OutputFormat::Text)
 }
 
+/// What the two files of a configuration are.
+fn form(matches: &ArgMatches<'_>) -> ConfigForm
+    ensures { result ≡ form_of (rows_of (found_of matches.now)) }
+{
+    chosen(matches, "written", ConfigForm::Written, ConfigForm::Kconfig)
+}
+
 /// The two files of a configuration.
 fn config(alloc: Global, matches: &ArgMatches<'_>) -> Result<ConfigPaths, AllocError>
     ensures { IfOk result (AreConfig (rows_of (found_of matches.now))) }
 {
     Ok(ConfigPaths {
-        form: chosen(matches, "written", ConfigForm::Written, ConfigForm::Kconfig),
+        form: form(matches),
         first: arg(alloc, matches, "KCONFIG")?,
         second: arg(alloc, matches, "DOTCONFIG")?,
     })
+}
+
+/// The two files of a configuration, where they are named.
+fn named_config(alloc: Global, matches: &ArgMatches<'_>) -> Result<Option<ConfigPaths>, AllocError>
+    ensures { IfOk result (AreNamedConfig (rows_of (found_of matches.now))) }
+{
+    match optional_arg(alloc, matches, "KCONFIG")? {
+        Some(first) => Ok(Some(ConfigPaths {
+            form: form(matches),
+            first,
+            second: arg(alloc, matches, "DOTCONFIG")?,
+        })),
+        None => Ok(None),
+    }
 }
 
 /// Whether `sync` is asked for the stamps of all declared symbols by what conf wrote, which doesn't say what is declared.
@@ -191,6 +212,14 @@ fn diff_request(alloc: Global, matches: &ArgMatches<'_>) -> Result<Request, Allo
     Ok(Request::Diff {
         config: config(alloc, matches)?,
         report_style: report_style(matches),
+    })
+}
+
+fn status_request(alloc: Global, matches: &ArgMatches<'_>) -> Result<Request, AllocError>
+    ensures { IfOk result (IsRequestOf (codes "status") (rows_of (found_of matches.now))) }
+{
+    Ok(Request::Status {
+        config: named_config(alloc, matches)?,
     })
 }
 
@@ -359,6 +388,7 @@ fn request_named(alloc: Global, name: &str, matches: &ArgMatches<'_>) -> Result<
         "sync" => sync_request(alloc, matches),
         "preview" => preview_request(alloc, matches),
         "diff" => diff_request(alloc, matches),
+        "status" => status_request(alloc, matches),
         "fixdep" => fixdep_request(alloc, matches),
         "record" => record_request(alloc, matches),
         "depfile" => depfile_request(alloc, matches),

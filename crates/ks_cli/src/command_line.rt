@@ -38,10 +38,10 @@ fn subcommand<'a>(alloc: Global, usage: &Usage) -> Result<Command<'a>, AllocErro
     for arg in usage.args {
         command = command.arg(argument(alloc, arg))?;
     }
-    match usage.override_usage {
-        Some(call) => Ok(command.override_usage(call).arg_required_else_help(true)),
-        None => Ok(command),
+    if let Some(call) = usage.override_usage {
+        command = command.override_usage(call);
     }
+    Ok(command.arg_required_else_help(usage.needs_args))
 }
 
 /// The program without its commands.

@@ -18,7 +18,7 @@ An argument that begins with - has to stand after --.
 
 Exit status:
   0    done, and nothing is stale
-  1    an object is stale, or was built by another command; with diff --exit-code or --quiet, a symbol differs
+  1    an object is stale, or was built by another command; with status, diff --exit-code or --quiet, something differs
   2    an error, or the arguments are wrong
   65   numbers would be lost, so nothing was done
   75   another confstamp is at work in the directory, so nothing was done
@@ -71,8 +71,10 @@ pub(crate) struct Usage {
     pub(crate) name: &'static str,
     pub(crate) about: &'static str,
     pub(crate) args: &'static [ArgUsage],
-    /// How it is called, where `clap` would not say so. Without any argument this is printed.
+    /// How it is called, where `clap` would not say so.
     pub(crate) override_usage: Option<&'static str>,
+    /// Whether its help is printed where it has no argument.
+    pub(crate) needs_args: bool,
     pub(crate) after_help: &'static str,
 }
 
@@ -160,6 +162,7 @@ pub(crate) const WRITING_USAGES: &[Usage] = &[
             DOTCONFIG,
         ],
         override_usage: Some("confstamp sync [--stamps | --written] <KCONFIG> <DOTCONFIG>"),
+        needs_args: true,
         after_help: "\
 Prints the generation, touch NAME for each stamp, and how many lines name an unknown symbol.
 
@@ -179,6 +182,7 @@ Example: confstamp sync Kconfig .config",
             },
         ],
         override_usage: Some("confstamp preview [--written] <KCONFIG> <DOTCONFIG> [OLDAUTO]"),
+        needs_args: true,
         after_help: "\
 Prints touch NAME for each stamp, then auto.conf. Writes no file.
 
@@ -205,6 +209,7 @@ Example: confstamp preview Kconfig .config include/config/auto.conf",
         override_usage: Some(
             "confstamp diff [--exit-code] [--quiet] [--written] <KCONFIG> <DOTCONFIG>",
         ),
+        needs_args: true,
         after_help: "\
 Prints NAME OLD -> NEW for each, n where a symbol has no value, and both kinds where the values are alike.
 To standard error goes unknown NAME for each line of DOTCONFIG that names no symbol of KCONFIG. Writes no file.
@@ -212,10 +217,35 @@ To standard error goes unknown NAME for each line of DOTCONFIG that names no sym
 Example: confstamp diff --exit-code Kconfig .config",
     },
     Usage {
+        name: "status",
+        about: "Say whether the tree is as its last synchronisation left it, and of which configuration that was",
+        args: &[
+            WRITTEN,
+            ArgUsage {
+                name: "KCONFIG",
+                num_args: NumArgs::AtMostOnce,
+                help: "The Kconfig file; without it no configuration is looked at",
+            },
+            ArgUsage {
+                name: "DOTCONFIG",
+                num_args: NumArgs::AtMostOnce,
+                help: "The .config file: what the symbols are set to",
+            },
+        ],
+        override_usage: Some("confstamp status [--written] [KCONFIG DOTCONFIG]"),
+        needs_args: false,
+        after_help: "\
+Prints the generation of auto.conf, whether the header defines what auto.conf says, and how many symbols sync would touch.
+The status is 1 unless there is a generation, the header is the same and no symbol would be touched. Writes no file.
+
+Example: confstamp status Kconfig .config",
+    },
+    Usage {
         name: "fixdep",
         about: "Show the command file of an object, from the compiler's dependency file",
         args: &[DEPFILE, TARGET, COMMAND],
         override_usage: None,
+        needs_args: false,
         after_help: "\
 Prints what record would write, but for its generation. Writes no file.
 
@@ -247,6 +277,7 @@ Example: confstamp fixdep x.d x.o 'cc -c x.c'",
         override_usage: Some(
             "confstamp record [--remove-depfile] [--cmd] [--before-sync] <DEPFILE> <TARGET> <COMMAND>",
         ),
+        needs_args: true,
         after_help: "\
 Is run directly after the compiler. Prints the generation, and how many names were found.
 
@@ -278,6 +309,7 @@ Example: confstamp record x.d x.o 'cc -c x.c'",
         override_usage: Some(
             "confstamp depfile [--header SUFFIX] [--strict PATH [--tools TOOL...]] [--] <DEPFILE> <TARGET> <COMMAND>",
         ),
+        needs_args: true,
         after_help: "\
 Does what record does. Then it makes the missing stamps, empty, and leaves one rule in DEPFILE: without the header,
 and with the stamp of each name. Refused, it leaves DEPFILE as it was. Prints what record prints.
@@ -310,6 +342,7 @@ Example: confstamp depfile x.d x.o 'cc -c x.c'",
             },
         ],
         override_usage: Some("confstamp repair --stamps FILE --targets FILE [AUTO HEADER]"),
+        needs_args: true,
         after_help: "\
 Each stamp that is empty, 0, faulty or missing counts as changed after that sync: put back GENERATION touched N. Where a
 number is higher than AUTO's, or AUTO isn't given, no object keeps its number, and numbers begin again above all others:
@@ -326,6 +359,7 @@ pub(crate) const ASKING_USAGES: &[Usage] = &[
         about: "Say which objects have to be built again because the configuration changed",
         args: &[TARGETS, FROM, JSON],
         override_usage: Some("confstamp stale [--json] [--from FILE] [TARGET]..."),
+        needs_args: true,
         after_help: "\
 Prints a line for each object: fresh, stale and why, or refused and why. A TARGET or --from is needed.
 
@@ -336,6 +370,7 @@ Example: confstamp stale x.o y.o",
         about: "Say which objects are stale, and list every symbol that changed since each was built",
         args: &[TARGETS, FROM, JSON],
         override_usage: Some("confstamp why [--json] [--from FILE] [TARGET]..."),
+        needs_args: true,
         after_help: "\
 Prints the lines of stale, and below an object NAME generation N PLACE for each symbol: when it changed, and where
 it was found; or recorded as PATH, where that is another spelling of its path. A TARGET or --from is needed.
@@ -349,6 +384,7 @@ Example: confstamp why x.o y.o",
         override_usage: Some(
             "confstamp impact [--json] [--from FILE] [--written] <KCONFIG> <DOTCONFIG> [TARGET]...",
         ),
+        needs_args: true,
         after_help: "\
 Prints what stale would print after sync KCONFIG DOTCONFIG, and N of M stale to standard error. Writes no file.
 
@@ -359,6 +395,7 @@ Example: confstamp impact Kconfig .config x.o y.o",
         about: "Say which objects are stale, and backdate them, so that make builds them whatever their times",
         args: &[UNRECORDED, TARGETS, FROM],
         override_usage: Some("confstamp backdate [--unrecorded] [--from FILE] [TARGET]..."),
+        needs_args: true,
         after_help: "\
 Prints the lines of stale. The file of an object that is stale by its record gets the first second of 1970 as its
 time, and keeps its bytes. A TARGET or --from is needed.
@@ -370,6 +407,7 @@ Example: confstamp backdate --from objects",
         about: "The old name of backdate, which the next release takes no longer",
         args: &[UNRECORDED, TARGETS, FROM],
         override_usage: Some("confstamp age [--unrecorded] [--from FILE] [TARGET]..."),
+        needs_args: true,
         after_help: "\
 Does what backdate does. A TARGET or --from is needed.
 
@@ -380,6 +418,7 @@ Example: confstamp age --from objects",
         about: "Mark the command files of stale objects, so that make compiles these whatever their times",
         args: &[UNNUMBERED, TARGETS, FROM],
         override_usage: Some("confstamp mark [--unrecorded] [--from FILE] [TARGET]..."),
+        needs_args: true,
         after_help: "\
 At the end of the command file of an object that is stale by its record the path of the stamp that says so becomes the saved
 command, and make compiles what has another command. A command file that is refused is emptied. The next record has no mark.
@@ -396,6 +435,7 @@ Example: confstamp mark --from objects",
             help: "A file with a command sync, record or stale on each line; empty lines and those that begin with # are skipped",
         }],
         override_usage: None,
+        needs_args: false,
         after_help: "\
 Prints a line for each command of the script. A refused one does not end it.
 
@@ -406,6 +446,7 @@ Example: confstamp batch steps",
         about: "Say whether an object was built by another command, or is stale",
         args: &[TARGET, COMMAND],
         override_usage: None,
+        needs_args: false,
         after_help: "\
 Prints command-differs after the object, or what stale prints.
 
@@ -427,6 +468,7 @@ Example: confstamp outdated x.o 'cc -c x.c'",
             },
         ],
         override_usage: Some("confstamp users --from FILE <SYMBOL>..."),
+        needs_args: true,
         after_help: "\
 Prints OBJECT SYMBOL PLACE for each, with the first file that mentions the symbol, and N of M objects to standard
 error. Looks at each object once, and only at command files.
@@ -446,6 +488,7 @@ Example: confstamp users --from objects PRINTK",
             },
         ],
         override_usage: Some("confstamp cost [--from FILE] [--top N] [TARGET]..."),
+        needs_args: true,
         after_help: "\
 Prints SYMBOL N for each, the most expensive first. Looks at each object once, and only at command files. A TARGET or
 --from is needed.
@@ -461,6 +504,7 @@ Example: confstamp cost --from objects --top 20",
             help: "The number of the error, or its name; without it, all errors are listed",
         }],
         override_usage: None,
+        needs_args: false,
         after_help: "\
 Reads and writes no file.
 

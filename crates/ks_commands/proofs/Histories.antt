@@ -77,6 +77,8 @@ requests_go_on dialect (request.Preview c o) ended old new h told shows ends =
     (h, (old.backdated, new.backdated, λ t. (((ends t).0, refl), (ends t).1)), stays old new h shows (ends tt).0)
 requests_go_on dialect (request.Diff c report_style) ended old new h told shows ends =
     (h, (old.backdated, new.backdated, λ t. (((ends t).0, refl), (ends t).1)), stays old new h shows (ends tt).0)
+requests_go_on dialect (request.Status c) ended old new h told shows ends =
+    (h, (old.backdated, new.backdated, λ t. (((ends t).0, refl), (ends t).1)), stays old new h shows (ends tt).0)
 requests_go_on dialect (request.Fixdep d o c) ended old new h told shows ends =
     (h, (old.backdated, new.backdated, λ t. (((ends t).0, refl), (ends t).1)), stays old new h shows (ends tt).0)
 requests_go_on dialect asked ended old new h told shows ends =

@@ -7,6 +7,7 @@ pub mod Ending
 pub mod Histories
 pub mod Headline
 pub mod Differing
+pub mod TreeStatuses
 mod Previewing
 pub mod Unknowns
 pub mod Spelled

@@ -28,7 +28,7 @@ use Rattle.ks_engine.specs.Recorded.{usual_with}
 use Rattle.ks_engine.specs.Refusals.{Answers, IsAborted}
 use Rattle.ks_engine.specs.FileRuns.{FileRun, FileState, LeavesDepfile, LeavesRecord, state}
 use Rattle.ks_engine.specs.Sources.{Source, source_in}
-use Rattle.ks_engine.specs.SyncPlan.{IsSyncPlan}
+use Rattle.ks_engine.specs.SyncPlan.{ConfigInputs, IsSyncPlan}
 use Rattle.ks_engine.specs.Synchronised.{IsSynced}
 use Rattle.ks_requests.specs.declared.refusal.Refusal.{Refusal}
 use Rattle.ks_requests.specs.declared.refusal.Refusal.TheVariants.{Engine}
@@ -40,7 +40,7 @@ use Rattle.ks_requests.specs.declared.request.OutputFormat.TheVariants.{Text}
 use Rattle.ks_requests.specs.declared.request.Request.{Request}
 use Rattle.ks_requests.specs.declared.request.Stamps.{Stamps}
 use Rattle.ks_requests.specs.declared.request.Targets.{Targets}
-use Rattle.ks_requests.specs.declared.request.Request.TheVariants.{Backdate, Batch, Cost, Depfile, Diff, Fixdep, Impact, Mark, Outdated, Preview, Record, Repair, Stale, Sync, Users, Why}
+use Rattle.ks_requests.specs.declared.request.Request.TheVariants.{Backdate, Batch, Cost, Depfile, Diff, Fixdep, Impact, Mark, Outdated, Preview, Record, Repair, Stale, Status, Sync, Users, Why}
 use Rattle.ks_requests.specs.declared.report_style.ReportStyle.{ReportStyle}
 use Rattle.ks_requests.specs.declared.status.Status.TheVariants.{Done}
 use Rattle.ks_requests.specs.Endings.{Answered, Ending, Stopped, Reports, ReportsUnknown}
@@ -60,6 +60,8 @@ use Rattle.ks_commands.specs.Stamps.{LeavesStamps}
 use Rattle.ks_commands.specs.Records.{reading, reports_cost, unread_lines, user_count, uses_lines}
 use Rattle.ks_commands.specs.Scripts.{AreSpelled, IsAbortedRefusal, script_at}
 use Rattle.ks_commands.specs.Repairing.{LeavesRepair, RepairInputs, repair_at}
+use Rattle.ks_commands.specs.TreeStatus.{AreInputsOf, IsRefusedSource, IsStatusRefused, IsTreeStatus, source_named, status_code, status_lines}
+use Rattle.ks_commands.specs.declared.tree_status.TreeStatus.{TreeStatus}
 use Rattle.ks_commands.specs.Walks.{EndsWalk, IsCounted, StoppedBy}
 
 -- What the engine's calls answer and leave. It is said by the files here, and by histories in the laws of this crate.
@@ -137,6 +139,13 @@ EndsDiff dialect report_style files c ended =
     × ReportsUnknown text status (lines_asked report_style (unknown_of (source_at dialect c.form t))) ended)
     ⊎ StoppedSync files (source_at dialect c.form t) ended))
 
+-- What the tree is, printed, and beside the configuration where one is named; or why that is refused.
+abbrev pub EndsStatus : Dialect → Files → Option ConfigPaths → Ending → Type 0
+EndsStatus dialect files config ended =
+    ((e : EngineError) × (IsAborted e ⊎ (IsRefusedSource dialect files config e ⊎ IsStatusRefused files e)) × (ended ≡ Err (Engine e)))
+    ⊎ ((source : Option Source) × (source_named dialect files config ≡ Ok source) × (inputs : Option ConfigInputs) × AreInputsOf source inputs
+    × (s : TreeStatus) × IsTreeStatus files dialect inputs s × Reports (status_lines s) (status_code s) ended)
+
 abbrev pub EndsFixdep : Dialect → Files → List ℕ → List ℕ → List ℕ → Ending → Type 0
 EndsFixdep dialect files d t c ended =
     (answer : Result (List ℕ) EngineError) × Answers (command_file_at dialect files d t c) (λ text. text) answer × Answered (λ text. text) answer ended
@@ -179,6 +188,7 @@ Ends honest effects old (Sync c stamps) ended new = honest → EndsSync old.file
 Ends honest effects old (Preview c o) ended new =
     honest → effects.same × EndsPreview effects.dialect old.files c (option_map (λ path. string_bytes path) o) ended
 Ends honest effects old (Diff c report_style) ended new = honest → effects.same × EndsDiff effects.dialect report_style old.files c ended
+Ends honest effects old (Status c) ended new = honest → effects.same × EndsStatus effects.dialect old.files c ended
 Ends honest effects old (Fixdep d t c) ended new =
     honest → effects.same × EndsFixdep effects.dialect old.files (string_bytes d) (string_bytes t) (string_bytes c) ended
 Ends honest effects old (Record d t c after options) ended new = honest → EndsRecord effects options (string_bytes d) (string_bytes t) (string_bytes c) ended

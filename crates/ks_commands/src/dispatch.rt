@@ -21,6 +21,7 @@ use crate::fixdep::command_file_text;
 use crate::marks::mark_targets;
 use crate::queries::{outdated_target, query_predicted, query_targets};
 use crate::repairs::repair_tree;
+use crate::tree_status::report_status;
 use crate::users::report_users;
 use ks_engine::{EngineError, Query};
 use ks_requests::{
@@ -100,6 +101,7 @@ pub(crate) fn outcome<T: Backdating>(
             config,
             report_style,
         } => report_differences(alloc, tree, dialect, config, *report_style),
+        Request::Status { config } => report_status(alloc, tree, dialect, config),
         Request::Fixdep {
             depfile,
             target,

@@ -1,6 +1,7 @@
 //! Laws of the definitions, each the contract of a function that does nothing.
 ghost use Rattle.ks_commands.specs.PreviewLaws.{PreviewsAreRefusedAsSyncs, PreviewsReportSyncs};
 ghost use Rattle.ks_commands.specs.Laws.{BatchReportsChanges, PreviewsArePerformed, RefusalsChangeNothing, RequestsGoOn, StatusesAreAtMostTwo, StatusesReportDifferences, WhatChangedIsBackdated};
+ghost use Rattle.ks_commands.specs.TreeStatusLaws.{SameTreesTouchNothing, SynchronisedTreesAreSame, SynchronisedTreesAreWhole};
 
 /// What is said of a request by the files of an honest tree says what becomes of each history that they show.
 pub fn requests_go_on()
@@ -31,6 +32,13 @@ pub fn statuses_are_at_most_two()
 /// What the status of `diff --exit-code` and `diff --quiet` says.
 pub fn statuses_report_differences()
     ensures { StatusesReportDifferences }
+{}
+
+/// What `status` says of a tree that was just synchronised, and what a synchronisation does where it says that all is the same.
+pub fn statuses_tell_synchronisations()
+    ensures whole { SynchronisedTreesAreWhole }
+    ensures same { SynchronisedTreesAreSame }
+    ensures nothing { SameTreesTouchNothing }
 {}
 
 /// A script that runs without a refusal tells what changed, where nothing was broken off before it.

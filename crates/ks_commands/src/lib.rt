@@ -18,11 +18,12 @@ mod queries;
 mod readings;
 mod repairs;
 mod spelling;
+mod tree_status;
 mod users;
 
 pub use laws::{
     batch_reports_changes, previews_are_performed, previews_report_synchronisations,
     refusals_change_nothing, statuses_are_at_most_two, statuses_report_differences,
-    what_changed_is_backdated,
+    statuses_tell_synchronisations, what_changed_is_backdated,
 };
 pub use program::execute;

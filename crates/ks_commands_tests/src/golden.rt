@@ -69,6 +69,7 @@ pub const EACH_COMMAND: &[(Step<'_>, &str)] = &[
     (Step::Args(&["diff", "K1", "c1"]), "0 A n -> y\nB n -> m\n"),
     (Step::Args(&["diff", "--exit-code", "K1", "c1"]), "1 A n -> y\nB n -> m\n"),
     (Step::Args(&["diff", "--quiet", "K1", "c1"]), "1 "),
+    (Step::Args(&["status", "K1", "c1"]), "1 auto.conf: not synchronised\nheader: missing\nconfiguration: changed 2\n"),
     (Step::Args(&["fixdep", "x.d", "x.o", "cc -c x.c"]), FIXDEP),
     (Step::Read("include/config/auto.conf"), "none"),
     (Step::Read(".x.o.cmd"), "none"),
@@ -90,6 +91,9 @@ pub const EACH_COMMAND: &[(Step<'_>, &str)] = &[
     (Step::Args(&["diff", "K1", "c2"]), "0 unknown D\n"),
     (Step::Args(&["diff", "--exit-code", "K1", "c3"]), "1 A y -> n\nunknown D\n"),
     (Step::Args(&["diff", "--quiet", "K1", "c3"]), "1 "),
+    (Step::Args(&["status"]), "0 auto.conf: generation 1\nheader: same\n"),
+    (Step::Args(&["status", "K1", "c1"]), "0 auto.conf: generation 1\nheader: same\nconfiguration: same\n"),
+    (Step::Args(&["status", "K1", "c3"]), "1 auto.conf: generation 1\nheader: same\nconfiguration: changed 1\n"),
     (Step::Read("include/config/auto.conf"), AUTO),
     (Step::Args(&["sync", "K1", "c2"]), "0 generation 2\nunknown 1\n"),
 ];

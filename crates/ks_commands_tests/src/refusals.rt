@@ -25,6 +25,9 @@ const SYNC_AND_PREVIEW: &[(Step<'_>, &str)] = &[
     (Step::Args(&["sync", "K1", "c1"]), "2 confstamp: 11 BadAuto line 5\n  include/config/auto.conf:5: CONFIG_../x=y\n"),
     (Step::Args(&["record", "x.d", "x.o", "cc"]), "2 confstamp: 11 BadAuto line 5\n  include/config/auto.conf:5: CONFIG_../x=y\n"),
     (Step::Args(&["diff", "K1", "c1"]), "2 confstamp: 11 BadAuto line 5\n  include/config/auto.conf:5: CONFIG_../x=y\n"),
+    (Step::Args(&["status", "K1", "c1"]), "2 confstamp: 11 BadAuto line 5\n  include/config/auto.conf:5: CONFIG_../x=y\n"),
+    (Step::Args(&["status"]), "2 confstamp: 11 BadAuto line 5\n  include/config/auto.conf:5: CONFIG_../x=y\n"),
+    (Step::Args(&["status", "K1", "faulty"]), "2 confstamp: 8 BadValue line 2\n  faulty:2: CONFIG_A=m\n"),
     (Step::Args(&["impact", "K1", "c1", "x.o"]), "2 confstamp: 11 BadAuto line 5\n  include/config/auto.conf:5: CONFIG_../x=y\n"),
     (Step::Args(&["diff", "K1", "faulty"]), "2 confstamp: 8 BadValue line 2\n  faulty:2: CONFIG_A=m\n"),
     (Step::Args(&["diff", "--quiet", "K1", "faulty"]), "2 confstamp: 8 BadValue line 2\n  faulty:2: CONFIG_A=m\n"),
@@ -37,6 +40,7 @@ const SYNC_AND_PREVIEW: &[(Step<'_>, &str)] = &[
     (Step::Args(&["sync", "K1", "c1"]), "2 confstamp: 42 GenerationFull\n"),
     (Step::Args(&["impact", "K1", "c1", "x.o"]), "2 confstamp: 42 GenerationFull\n"),
     (Step::Args(&["preview", "K1", "c1", "include/config/auto.conf"]), "2 confstamp: 42 GenerationFull\n"),
+    (Step::Args(&["status", "K1", "c1"]), "1 auto.conf: generation 18446744073709551615\nheader: missing\nconfiguration: changed 2\n"),
     (Step::Read("include/config/auto.conf"), "#generation 18446744073709551615\n"),
     (Step::Read("include/generated/autoconf.h"), "none"),
 ];

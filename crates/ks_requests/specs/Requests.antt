@@ -2,8 +2,8 @@
 use Rattle.std.specs.Prelude.{◌≡◌, ℕ, List, Option, option_map, string_bytes, ⊤}
 use Rattle.ks_engine.specs.declared.planning.ConfigForm.{ConfigForm}
 use Rattle.ks_requests.specs.declared.request.Request.{Request}
-use Rattle.ks_requests.specs.declared.request.Request.TheVariants.{Backdate, Batch, Cost, Depfile, Diff, Fixdep, Impact, Outdated, Preview, Record, Stale, Sync, Users, Why}
-use Rattle.ks_requests.specs.declared.report_style.ReportStyle.TheVariants.{LinesAndStatus, Status}
+use Rattle.ks_requests.specs.declared.request.Request.TheVariants.{Backdate, Batch, Cost, Depfile, Diff, Fixdep, Impact, Outdated, Preview, Record, Stale, Status, Sync, Users, Why}
+use Rattle.ks_requests.specs.declared.report_style.ReportStyle.TheVariants.{LinesAndStatus, Status as StatusAlone}
 
 -- the request is a preview of these two files of this form, over this old auto.conf if there is one
 abbrev pub IsPreviewOf : ConfigForm → List ℕ → List ℕ → Option (List ℕ) → Request → Type 0
@@ -16,7 +16,7 @@ abbrev pub IsBatchOf : List ℕ → Request → Type 0
 IsBatchOf path (Batch p) = string_bytes p ≡ path
 IsBatchOf path _ = ⊥
 
--- a request that is done or refused as a whole: its status is not to say that an object is stale, nor that a name differs
+-- a request that is done or refused as a whole: its status is not to say that an object is stale, nor that something differs
 abbrev pub IsNoQuery : Request → Type 0
 IsNoQuery (Stale targets format) = ⊥
 IsNoQuery (Why targets format) = ⊥
@@ -25,7 +25,8 @@ IsNoQuery (Backdate which targets) = ⊥
 IsNoQuery (Outdated target command) = ⊥
 IsNoQuery (Batch script) = ⊥
 IsNoQuery (Diff config LinesAndStatus) = ⊥
-IsNoQuery (Diff config Status) = ⊥
+IsNoQuery (Diff config StatusAlone) = ⊥
+IsNoQuery (Status config) = ⊥
 IsNoQuery (Users symbols targets) = ⊥
 IsNoQuery (Cost top targets) = ⊥
 IsNoQuery _ = ⊤
@@ -35,6 +36,7 @@ abbrev pub IsOneStep : Request → Type 0
 IsOneStep (Sync config stamps) = ⊤
 IsOneStep (Preview config old) = ⊤
 IsOneStep (Diff config report_style) = ⊤
+IsOneStep (Status config) = ⊤
 IsOneStep (Fixdep depfile target command) = ⊤
 IsOneStep (Record depfile target command after options) = ⊤
 IsOneStep (Depfile header strict depfile target command) = ⊤

@@ -18,7 +18,7 @@ use Rattle.ks_requests.specs.declared.refusal.Refusal.{Refusal}
 use Rattle.ks_requests.specs.declared.refusal.Refusal.TheVariants.{Engine, Hidden as OfHidden, BadScript}
 use Rattle.ks_requests.specs.declared.request.ConfigPaths.{ConfigPaths}
 use Rattle.ks_requests.specs.declared.request.Request.{Request}
-use Rattle.ks_requests.specs.declared.request.Request.TheVariants.{Backdate, Batch, Cost, Depfile, Diff, Fixdep, Impact, Mark, Outdated, Preview, Record, Repair, Stale, Sync, Users, Why}
+use Rattle.ks_requests.specs.declared.request.Request.TheVariants.{Backdate, Batch, Cost, Depfile, Diff, Fixdep, Impact, Mark, Outdated, Preview, Record, Repair, Stale, Status, Sync, Users, Why}
 use Rattle.ks_requests.specs.declared.sites.Part.{Part}
 use Rattle.ks_requests.specs.declared.sites.Part.TheVariants.{Whole, Line, Token}
 use Rattle.ks_requests.specs.Endings.{Ending}
@@ -59,6 +59,12 @@ config_site c auto (Engine (Written e)) = written_site (string_bytes c.first) (s
 config_site c auto (Engine (BadAuto line)) = option_map (λ path. (path, Line line)) auto
 config_site c auto _ = None
 
+-- .. where they are named, and of this tree's auto.conf
+abbrev pub status_site : Option ConfigPaths → Refusal → Option Site
+status_site (Some c) refusal = config_site c (Some auto_path) refusal
+status_site None (Engine (BadAuto line)) = Some (auto_path, Line line)
+status_site None _ = None
+
 -- of a dependency file; token 0 is a word of the command line
 abbrev pub depfile_site : List ℕ → Refusal → Option Site
 depfile_site depfile (Engine NoTarget) = Some (depfile, Whole)
@@ -93,6 +99,7 @@ abbrev pub site_of : Request → Refusal → Option Site
 site_of (Sync c stamps) refusal = config_site c (Some auto_path) refusal
 site_of (Preview c o) refusal = config_site c (option_map (λ path. string_bytes path) o) refusal
 site_of (Diff c report_style) refusal = config_site c (Some auto_path) refusal
+site_of (Status c) refusal = status_site c refusal
 site_of (Impact c targets format) refusal = config_site c (Some auto_path) refusal
 site_of (Fixdep d t c) refusal = depfile_site (string_bytes d) refusal
 site_of (Record d t c after options) refusal = record_site (string_bytes d) refusal

@@ -34,7 +34,7 @@ pub use reading::Reading;
 pub use refusal::Refusal;
 pub use replies::{
     build_status, report_depfile, report_marked, report_recorded, report_repair, report_replies,
-    report_sync, write_answer, write_build_line, write_refused_target,
+    report_sync, write_answer, write_build_line, write_count, write_refused_target,
 };
 pub use report_style::ReportStyle;
 pub use request::{

@@ -37,9 +37,9 @@ fn write_verdict(verdict: &Verdict, text: &mut Vec<u8>) -> Result<(), AllocError
     }
 }
 
-/// A number after its label.
+/// Appends a number after its label.
 #[tactic(auto, unfolding(crate::specs::Faults::counted))]
-fn write_count(label: &[u8], count: u64, text: &mut Vec<u8>) -> Result<(), AllocError>
+pub fn write_count(label: &[u8], count: u64, text: &mut Vec<u8>) -> Result<(), AllocError>
     ensures { OnOk result (text.new.items ≡ text.old.items ++ counted label.now count) }
 {
     text.extend_from_slice(label)?;

@@ -87,6 +87,10 @@ pub enum Request {
         config: ConfigPaths,
         report_style: ReportStyle,
     },
+    /// Whether the tree is that of its last completed synchronisation, and whether that was one of a configuration, if one is named.
+    Status {
+        config: Option<ConfigPaths>,
+    },
     /// The command file of an object, without a generation.
     Fixdep {
         depfile: String,

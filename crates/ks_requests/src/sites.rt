@@ -6,7 +6,7 @@ ghost use Rattle.std.specs.Prelude.{◌≡◌, ◌-◌, ℕ, List, Some, IfOk, I
 ghost use Rattle.ks_symbols.specs.Lines.{lines};
 ghost use Rattle.ks_tree.specs.Files.{IsTooLarge, content};
 ghost use Rattle.ks_tree.specs.Frames.{Reads};
-ghost use Rattle.ks_requests.specs.Sites.{config_site, depfile_site, excerpt, excerpt_at, excerpt_in, hidden_site, names_site, part_text, record_site, rule_site, script_site, site_of, source_site, visible, written_site};
+ghost use Rattle.ks_requests.specs.Sites.{config_site, depfile_site, excerpt, excerpt_at, excerpt_in, hidden_site, names_site, part_text, record_site, rule_site, script_site, site_of, source_site, status_site, visible, written_site};
 ghost use Rattle.ks_requests.specs.declared.sites.Part.TheVariants.{Line};
 ghost use Rattle.ks_requests.specs.Views.{seen_site};
 
@@ -178,6 +178,19 @@ fn path_bytes(path: &Option<String>) -> Option<&[u8]>
     }
 }
 
+/// The line of one of the files of a configuration, if one is named, or of auto.conf.
+fn status_site<'a>(config: &'a Option<ConfigPaths>, refusal: &Refusal) -> Option<Site<'a>>
+    ensures { option_map seen_site result ≡ status_site config.now refusal.now }
+{
+    if let Some(config) = config {
+        return config_site(config, Some(auto_path()), refusal);
+    }
+    match refusal {
+        Refusal::Engine(EngineError::BadAuto(line)) => at_line(auto_path(), *line),
+        _ => None,
+    }
+}
+
 /// The line of a list of names.
 fn names_site<'a>(list: &'a [u8], refusal: &Refusal) -> Option<Site<'a>>
     ensures { option_map seen_site result ≡ names_site list.now refusal.now }
@@ -198,6 +211,7 @@ pub fn site_of<'a>(request: &'a Request, refusal: &'a Refusal) -> Option<Site<'a
         | Request::Diff { config, .. }
         | Request::Impact { config, .. } => config_site(config, Some(auto_path()), refusal),
         Request::Preview { config, old } => config_site(config, path_bytes(old), refusal),
+        Request::Status { config } => status_site(config, refusal),
         Request::Fixdep { depfile, .. } => depfile_site(depfile.as_bytes(), refusal),
         Request::Record { depfile, .. } => record_site(depfile.as_bytes(), refusal),
         Request::Depfile { depfile, .. } => rule_site(depfile.as_bytes(), refusal),

@@ -8,7 +8,7 @@ ghost use Rattle.ks_requests.specs.declared.status.Status.TheVariants as status;
 pub enum Status {
     /// It is done, and nothing is stale.
     Done,
-    /// Nothing was refused, and some object is stale or was built by another command; or names differ, where that was asked.
+    /// Nothing was refused, and some object is stale or was built by another command; or something differs, where that was asked.
     Stale,
     /// Something was refused.
     Refused,

@@ -8,6 +8,10 @@ pub returns-in-Diff-clause-ends : goal.returns-in-Diff-clause-ends
 returns-in-Diff-clause-ends g c =
     rw c.in-Diff.is (λ honest. (c.report_differences.ensures.reads.unchanged honest, c.report_differences.ensures.reported honest))
 
+pub returns-in-Status-clause-ends : goal.returns-in-Status-clause-ends
+returns-in-Status-clause-ends g c =
+    rw c.in-Status.is (λ honest. (c.report_status.ensures.reads.unchanged honest, c.report_status.ensures.reported honest))
+
 pub returns-in-Stale-clause-ends : goal.returns-in-Stale-clause-ends
 returns-in-Stale-clause-ends g c = rw c.in-Stale.is (c.query_targets.ensures.unchanged, c.query_targets.ensures.reported)
 

@@ -652,13 +652,18 @@ static void words_of_repair(Command *made)
         put_option(made, "--targets", file_word("list"));
 }
 
-/* What writes nothing: `stale` or `why`, `impact`, `diff`, `users` or `cost`. */
+/* What writes nothing: `stale` or `why`, `impact`, `diff`, `status`, `users` or `cost`. */
 static Command made_question(void)
 {
     Command made = {.count = 0};
     switch (below(10)) {
     case 0:
-        words_of_diff(&made);
+        if (one_in(2))
+            words_of_diff(&made);
+        else if (one_in(3))
+            word(&made, "status");
+        else
+            words_of_sync(&made, "status");
         break;
     case 1:
         words_of_sync(&made, "impact");

@@ -2815,6 +2815,57 @@ static Answer run_diff(const Tree *tree, Bytes *words, size_t count)
     return (Answer){has_status && plan.count > 0, of_text(&output), of_text(is_quiet ? &no_lines : &plan.unknown_lines), false};
 }
 
+/* What `status` says of the header. Whether it is as auto.conf says: other definitions may stand behind, or some be cut off. */
+static bool add_header_state(Text *output, const Old *old, Bytes text, bool is_there)
+{
+    Lines lines = lines_of(text);
+    size_t count = 0;
+    if (!is_there) {
+        add_text(output, "header: missing\n");
+        return false;
+    }
+    while (next_plain_line(&lines)) {
+        if (!starts(lines.line, "#define "))
+            continue;
+        if (!is_definition(lines.line, old)) {
+            add_text(output, "header: differs in line %" PRIu64 "\n", lines.number);
+            return false;
+        }
+        count++;
+    }
+    add_text(output, count < old->entries.count ? "header: lacks a definition\n" : "header: same\n");
+    return count == old->entries.count;
+}
+
+static Answer run_status(const Tree *tree, Bytes *words, size_t count)
+{
+    Bytes texts[2], header, *names;
+    Plan plan;
+    Old old;
+    Text output = {0};
+    bool is_written = take_option(words, &count, "--written", NULL), is_there = false;
+    bool is_beside = count > 0;
+    if (count > 2)
+        return no_command();
+    if (count == 1)
+        return refusal(fault("21 BadPath token 0"));
+    Fault found = is_beside ? load_all(tree, words, 2, texts) : none;
+    if (!refused(found) && is_beside)
+        found = plan_of(texts, is_written, &plan);
+    if (!refused(found))
+        found = read_old(tree, &old);
+    if (!refused(found))
+        found = read_file(tree, bytes_of(header_path), &header, &is_there);
+    if (refused(found))
+        return refusal(found);
+    size_t changed = is_beside ? changes(&old, &plan.settings, &names) : 0;
+    add_text(&output, old.generation ? "auto.conf: generation %" PRIu64 "\n" : "auto.conf: not synchronised\n", old.generation);
+    bool is_same = add_header_state(&output, &old, header, is_there);
+    if (is_beside)
+        add_text(&output, changed ? "configuration: changed %zu\n" : "configuration: same\n", changed);
+    return (Answer){!is_same || changed > 0 || old.generation == 0, of_text(&output), {NULL, 0}, false};
+}
+
 /* A line of a script: its command and its words. */
 typedef struct {
     enum { SYNC, RECORD, STALE } command;
@@ -2949,6 +3000,8 @@ static Answer run_command(Tree *tree, Bytes *words, size_t count)
         return run_depfile(tree, words + 1, count - 1);
     if (is_text(words[0], "diff"))
         return run_diff(tree, words + 1, count - 1);
+    if (is_text(words[0], "status"))
+        return run_status(tree, words + 1, count - 1);
     if (is_text(words[0], "stale") || is_text(words[0], "why"))
         return run_questions(tree, words + 1, count - 1, is_text(words[0], "why"));
     if (is_text(words[0], "impact"))

@@ -58,18 +58,7 @@ packed_readme() {
 # take_prefix WORDS..: `prefix`, which is the word, or ~/.local without one.
 take_prefix() {
     case $#:${1-} in
-    1:--help)
-        sed -n '1d; /^# SPDX/d; 2,3{/^#$/d;}; /^#/!q; s/^# \{0,1\}//; p' "$0"
-        exit
-        ;;
-    0: | 1:[!-]*)
-        prefix=${1:-$HOME/.local}
-        ;;
-    *)
-        usage=
-        [ "${0##*/}" != install ] || usage=' [--shared] [--cpu x86-64-v3]'
-        echo "usage: tools/${0##*/}$usage [PREFIX]" >&2
-        exit 2
-        ;;
+    0: | 1:[!-]*) prefix=${1:-$HOME/.local} ;;
+    *) usage ;;
     esac
 }

@@ -9,102 +9,34 @@
 # The program logic that the proofs were written for: what `rt version` has to print, whichever kit it is.
 logic=dac8208d650f15bf
 
-# Seconds that a proof of each crate takes on a machine of four processors, as measured in a whole CI run.
-seconds='ks_symbols 227
-ks_output 113
-ks_compare 29
-ks_hidden 60
-ks_fixdep 318
-ks_tree 127
-ks_system 350
-ks_streams 32
-ks_engine 443
-ks_parallel 83
-ks_builds 60
-ks_requests 265
-ks_cli 155
-ks_session 96
-ks_commands 330
-confstamp 222'
+# The second at which each crate is proved on a machine of four processors: it begins behind those below it, and takes what it took in CI.
+ends=' ks_streams 32 ks_symbols 227 ks_output 340 ks_tree 354 ks_compare 369 ks_hidden 400 ks_fixdep 545 ks_system 704
+ ks_engine 988 ks_parallel 1071 ks_requests 1253 ks_cli 1408 ks_session 1504 ks_commands 1738 ks_builds 1798 confstamp 1960'
+last_end=1960
 
 # The lines of crates.txt for the program and all that it stands on; crates of tests alone are no part of it.
 program_crates() {
     grep -v -e '^#' -e '^[a-z_]*_tests:' "$top/crates.txt"
 }
 
-# seconds_left NOW [CRATE=SECOND..]: how long it takes from now on, by the second at which each of these crates was proved
-# (nothing, where it was before). A crate begins once those below it are proved, and takes its own seconds as much longer
-# or shorter as those that are done did. All is proved at the end of the longest row, or of the share of one processor where
-# that is more.
-seconds_left() {
-    (echo "$seconds" && echo && program_crates) | awk -v processors="$(getconf _NPROCESSORS_ONLN)" -v now="$1" -v reported="$*" '
-        BEGIN {
-            count = split(reported, words, " ")
-            for (at = 2; at <= count; at++) { split(words[at], pair, "="); ended[pair[1]] = pair[2] }
-        }
-        $0 == "" { listed = 1; next }
-        !listed { own[$1] = $2; next }
-        {
-            name = substr($1, 1, length($1) - 1)
-            names[++crates] = name
-            below[name] = $0
-            if (!(name in own)) own[name] = 60
-            if (name in ended) {
-                ends[name] = ended[name] + 0
-                if (ended[name] != "") { took += ends[name] - begun(name); usual += own[name] }
-            }
-        }
-        function begun(name,   count, at, last, names) {
-            count = split(below[name], names, " ")
-            for (at = 2; at <= count; at++) if (ends[names[at]] > last) last = ends[names[at]]
-            return last + 0
-        }
-        END {
-            pace = took > 0 ? took / usual : 1
-            for (at = 1; at <= crates; at++) {
-                name = names[at]
-                if (!(name in ended)) {
-                    ends[name] = begun(name) + own[name] * pace
-                    if (ends[name] < now) ends[name] = now
-                    left += own[name] * pace
-                }
-                if (ends[name] > last) last = ends[name]
-            }
-            share = left / processors
-            row = last - now
-            printf "%d\n", (row > share ? row : share)
-        }
-    '
-}
-
-# in_words SECONDS
-in_words() {
-    if [ "$1" -lt 90 ]; then
-        echo "$1 seconds"
-    else
-        echo "$((($1 + 30) / 60)) minutes"
-    fi
-}
-
-# report CRATE HOW: one line of progress. The time that is left is estimated by what the crates took here until now.
+# report CRATE HOW: one line of progress. What is left takes as much longer or shorter than by this table as what was proved until now.
 report() {
-    passed=$(($(date +%s) - started))
-    printf '  %2d:%02d %s %s' "$((passed / 60))" "$((passed % 60))" "$1" "$2"
-    if [ "$2" = proved ]; then
-        ended="$ended $1=$passed"
-        # shellcheck disable=SC2086 # the list is words
-        left=$(seconds_left "$passed" $ended)
-        [ "$left" = 0 ] || printf ', about %s to go' "$(in_words "$left")"
-    else
-        ended="$ended $1="
+    now=$(($(date +%s) - started))
+    printf '  %2d:%02d %s %s' "$((now / 60))" "$((now % 60))" "$1" "$2"
+    end=$(echo "$ends" | sed -n "s/.* $1 \([0-9]*\).*/\1/p")
+    [ "${end:-0}" -le "$reached" ] || reached=$end
+    if [ "$2" != proved ]; then
+        [ "${end:-0}" -le "$kept" ] || kept=$end
+    elif [ "$reached" -gt "$kept" ] && [ "$reached" -lt "$last_end" ]; then
+        left=$(((last_end - reached) * now / (reached - kept)))
+        printf ', about %d:%02d to go' "$((left / 60))" "$((left % 60))"
     fi
     echo
 }
 
 # The lines of `rt ci` go to the log, and one line is printed for each crate that is done.
 follow() {
-    started=$(date +%s)
-    ended=
+    started=$(date +%s) reached=0 kept=0
     while IFS= read -r line; do
         printf '%s\n' "$line" >> "$log"
         words=${line#rt: }
@@ -173,13 +105,4 @@ link_static() {
     kit=$(dirname "$(rt doc)")
     "${CC:-cc}" -static-pie -s -Wl,--gc-sections,-z,relro,-z,now,-z,noexecstack,--build-id=sha1,--fatal-warnings "$@" \
         -o "$linked" "$object" "$kit/c/libos_c.a" "$kit/c/liblibc_c.a"
-}
-
-# The name of the kit and its logic, as in `rt version`.
-kit_name() {
-    rt version | cut -d ' ' -f 1
-}
-
-kit_logic() {
-    rt version | sed -n 's/.* logic \([0-9a-f]*\).*/\1/p'
 }

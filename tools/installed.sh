@@ -13,30 +13,26 @@ tools/paste-check bin/paste-check
 ninja/confstamp-cc bin/confstamp-cc
 ninja/confstamp-sync bin/confstamp-sync
 ninja/confstamp.cmake lib/confstamp/ninja/confstamp.cmake
-kbuild/confstamp-kbuild bin/confstamp-kbuild
 make/confstamp.mk lib/confstamp/make/confstamp.mk
-$made/bash share/bash-completion/completions/confstamp
-$made/zsh share/zsh/site-functions/_confstamp
-$made/fish share/fish/vendor_completions.d/confstamp.fish
-tools/kbuild-completion/bash share/bash-completion/completions/confstamp-kbuild
-tools/kbuild-completion/zsh share/zsh/site-functions/_confstamp-kbuild
-tools/kbuild-completion/fish share/fish/vendor_completions.d/confstamp-kbuild.fish
 END
-    for page in "$top"/docs/*.1; do
-        echo "docs/${page##*/} share/man/man1/${page##*/}"
+    for program in confstamp confstamp-kbuild; do
+        echo "$made/$program.bash share/bash-completion/completions/$program"
+        echo "$made/$program.zsh share/zsh/site-functions/_$program"
+        echo "$made/$program.fish share/fish/vendor_completions.d/$program.fish"
     done
-    for document in "$top"/docs/*.md; do
-        echo "docs/${document##*/} share/doc/confstamp/docs/${document##*/}"
-    done
-    for hook in "$top"/kbuild/*; do
-        [ ! -f "$hook" ] || [ "${hook##*/}" = confstamp-kbuild ] || echo "kbuild/${hook##*/} lib/confstamp/kbuild/${hook##*/}"
-    done
+    (cd "$top" && find docs/*.1 docs/*.md kbuild/* -prune -type f) | sed '
+        s,^docs/\(.*\.1\)$,& share/man/man1/\1,
+        s,^docs/.*\.md$,& share/doc/confstamp/&,
+        s,^kbuild/confstamp-kbuild$,& bin/confstamp-kbuild,
+        s,^kbuild/[^ ]*$,& lib/confstamp/&,
+    '
 }
 
 # make_completions PROGRAM: the files of completion among them.
 make_completions() {
     for shell in bash zsh fish; do
-        "$top/tools/completion" "$shell" "$1" > "$top/$made/$shell"
+        "$top/tools/completion" "$shell" "$1" > "$top/$made/confstamp.$shell"
+        "$top/tools/completion" "$shell" "$top/kbuild/confstamp-kbuild" > "$top/$made/confstamp-kbuild.$shell"
     done
 }
 

@@ -77,39 +77,26 @@ count_check() {
 
 # The names of the checks.
 each_check() {
-    local name
-    for name in examples/*/; do
-        [ ! -d "$name" ] || echo "${name%/}"
-    done
-    for name in tests/*; do
-        if [ -f "$name" ] && [ -x "$name" ]; then
-            echo "$name"
-        fi
-    done
+    find examples tests -mindepth 1 -maxdepth 1 \( -path 'examples/*' -type d -o -path 'tests/*' -type f -perm -u+x \) | LC_ALL=C sort
 }
 
-# The same, those that take long first.
-longest_first() {
-    each_check | awk -v longest="$longest" '
-        BEGIN { count = split(longest, names, " "); for (at = 1; at <= count; at++) is_long[names[at]] = 1 }
-        $0 in is_long { print; next }
-        { others[++other] = $0 }
-        END { for (at = 1; at <= other; at++) print others[at] }
-    '
+# side_by_side COUNT FUNCTION NAME..: the function of each name, and as many at once.
+side_by_side() {
+    local name at_once=$1 function=$2 begun=0
+    shift 2
+    for name; do
+        begun=$((begun + 1))
+        [ "$begun" -le "$at_once" ] || wait -n
+        "$function" "$name" &
+    done
+    wait
 }
 
 check_each() {
-    local name tried running=0 at_once=${CHECKS_AT_ONCE:-$(nproc)}
+    local name tried long=${longest// /$'\n'}
     tried=$(mktemp -d) || exit 1
-    for name in $(longest_first); do
-        if [ "$running" -ge "$at_once" ]; then
-            wait -n
-            running=$((running - 1))
-        fi
-        first_try "$name" &
-        running=$((running + 1))
-    done
-    wait
+    # shellcheck disable=SC2046 # the names are words
+    side_by_side "${CHECKS_AT_ONCE:-$(nproc)}" first_try $(each_check | grep -xF -e "$long"; each_check | grep -vxF -e "$long")
     for name in $(each_check); do
         count_check "$name"
     done

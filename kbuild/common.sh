@@ -205,52 +205,35 @@ kconfigs() {
 }
 
 # ask_conf: runs the project's own conf on a copy of .config as it is now; a symbol that is new gets its default. It runs in a directory
-# of its own, where links stand for the files that are here, so nothing is written here. `asked` are the three files that it wrote: its
-# .config, and the two that `confstamp --written` takes. The environment is the one that conf had from make. Status 1: it failed,
-# as $tmpdir/messages says.
+# of its own, where links stand for the files that are here, so nothing is written here. That directory is `asked`, with the .config that
+# conf wrote, and the auto.conf and include/autoconf.h that `confstamp --written` takes; of BusyBox the former is its .config. The
+# environment is the one that conf had from make. Where it fails $tmpdir/messages says why.
 ask_conf() {
     here_now=$(pwd -P)
-    aside=$tmpdir/conf
-    mkdir "$aside"
-    ln -s "$here_now"/* "$aside"
-    rm -f "$aside/include"
-    mkdir -p "$aside/include/config" "$aside/include/generated"
-    cp "$config" "$aside/.config" 2> "$tmpdir/messages" || return 1
+    asked=$tmpdir/conf
+    mkdir "$asked"
+    ln -s "$here_now"/* "$asked"
+    rm -f "$asked/include"
+    mkdir -p "$asked/include/config"
+    cp "$config" "$asked/.config" 2> "$tmpdir/messages" || return 1
     find_sources
     (
-        cd "$aside"
-        while IFS= read -r line; do
-            [ -z "$line" ] || export "$line"
-        done << END
-$(sed -n 's/^ifneq "\$(\([A-Za-z_][A-Za-z0-9_]*\))" "\(.*\)"$/\1=\2/p' "$here_now/$read_kconfigs")
-END
-        case $sources in
-        /*) srctree=$sources ;;
-        *) srctree=$here_now/$sources ;;
-        esac
+        eval "$(sed -n "s/'/'\\\\''/g; s/^ifneq \"\$(\([A-Za-z_][A-Za-z0-9_]*\))\" \"\(.*\)\"\$/export \1='\2'/p" "$read_kconfigs")"
+        srctree=$(realpath "$sources")
         export srctree KCONFIG_CONFIG=.config KCONFIG_AUTOCONFIG="$auto"
-        export KCONFIG_AUTOHEADER=include/generated/autoconf.h KCONFIG_RUSTCCFG=include/generated/rustc_cfg
-        run_conf
-    ) > "$tmpdir/messages" 2>&1 < /dev/null || return 1
-    asked_config=$aside/.config
-    asked_first=$aside/$auto
-    asked_second=$aside/include/generated/autoconf.h
-    [ "$dialect" != busybox ] || { asked_first=$asked_config && asked_second=$aside/include/autoconf.h; }
-}
-
-# An auto.conf that says what .config says gives conf no stamp to make.
-run_conf() {
-    conf=scripts/kconfig/conf
-    [ -x "$conf" ] || conf=tools/kconfig/conf
-    [ -x "$conf" ] || { echo 'there is no scripts/kconfig/conf: make syncconfig builds it' && return 1; }
-    case $dialect in
-    busybox)
-        KERNELVERSION=$(sed -n 's/^ \* Busybox version: //p' "$here_now/include/autoconf.h")
-        export KERNELVERSION
-        yes '' | "./$conf" -o Config.in
-        ;;
-    *) "./$conf" --olddefconfig Kconfig && cp .config "$auto" && "./$conf" --syncconfig Kconfig ;;
-    esac
+        export KCONFIG_AUTOHEADER=include/autoconf.h KCONFIG_RUSTCCFG=include/rustc_cfg
+        cd "$asked"
+        conf=scripts/kconfig/conf
+        [ -x "$conf" ] || conf=tools/kconfig/conf
+        [ -x "$conf" ] || { echo 'there is no scripts/kconfig/conf: make syncconfig builds it' && exit 1; }
+        if [ "$dialect" = busybox ]; then
+            yes '' | KERNELVERSION=$(sed -n 's/^ \* Busybox version: //p' "$here_now/include/autoconf.h") "./$conf" -o Config.in &&
+                cp .config "$auto"
+        else
+            # An auto.conf that says what .config says gives conf no stamp to make.
+            "./$conf" --olddefconfig Kconfig && cp .config "$auto" && "./$conf" --syncconfig Kconfig
+        fi
+    ) > "$tmpdir/messages" 2>&1 < /dev/null
 }
 
 # can_tell_declared: are the names known here that the project's Kconfig files declare? `declared` has them, in order, each once. Of a file
@@ -409,7 +392,8 @@ difference_of_config() {
     elif grep -qsxFf "$generation_file" "$auto" && cmp -s "$config" "$synced_config"; then
         return
     elif ask_conf; then
-        { "$confstamp" ${dialect:+--dialect "$dialect"} diff --written "$asked_first" "$asked_second" 2>&1 || echo "confstamp diff ended with $?"; } |
+        { "$confstamp" ${dialect:+--dialect "$dialect"} diff --written "$asked/$auto" "$asked/include/autoconf.h" 2>&1 ||
+            echo "confstamp diff ended with $?"; } |
             awk 'NR == 1 { first = substr($0, 1, 120) } END { if (NR) print first (NR > 1 ? ", and " NR - 1 " more" : "") }'
     else
         printf '%.120s\n' "conf can't read it: $(tail -n 1 "$tmpdir/messages")"
@@ -470,7 +454,7 @@ judge_builds() {
             [ ! -f "$sources/$directory/$makefile" ] || echo "$sources/$directory/$makefile"
         done
     done)
-    grep -s '^CONFIG_[A-Za-z0-9_]*=[ym]$' "$auto" "$asked_config" > "$tmpdir/values" || :
+    grep -s '^CONFIG_[A-Za-z0-9_]*=[ym]$' "$auto" "$asked/.config" > "$tmpdir/values" || :
     # shellcheck disable=SC2086 # the list is words, and Kbuild takes no path with a blank
     awk -v sources="$sources/" -v synchronised="$auto" '
         # A path without `.` and `..`.

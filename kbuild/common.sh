@@ -14,10 +14,8 @@ if [ "${1-}" = --help ]; then
     exit
 fi
 
-case $0 in
-/*) here=${0%/*} ;;
-*) here=$(cd "$(dirname "$0")" && pwd) ;;
-esac
+here=${0%/*}
+[ "${here#/}" != "$here" ] || here=$PWD/$here
 auto=include/config/auto.conf
 synced_config=include/config/confstamp.config
 generation_file=include/config/confstamp.generation
@@ -71,9 +69,7 @@ directories_only() {
     usage=$1
     shift
     for word; do
-        case $word in
-        -*) wrong_words "$usage" ;;
-        esac
+        [ "${word#-}" = "$word" ] || wrong_words "$usage"
         [ -d "$word" ] || refuse "there is no directory $word"
     done
 }
@@ -102,14 +98,12 @@ find_there() {
     ended=0
     { complaints=$(find "$@" 2>&1 >&3) || ended=$?; } 3>&1
     [ "$ended" != 0 ] || return 0
-    complaints=${complaints:-find ended with $ended}
-    others=$(echo "$complaints" | sed '/^find: .*: No such file or directory$/d' | while IFS= read -r line; do
+    echo "${complaints:-find ended with $ended}" | sed '/^find: .*: No such file or directory$/d' | while IFS= read -r line; do
         path=$(echo "$line" | sed "s/^find: '*//; s/'*: Permission denied\$//")
-        { [ -d "$path" ] && [ ! -x "$path" ]; } || echo "$line"
-    done) || others=$complaints
-    [ -n "$others" ] || return 0
-    report "not all could be looked through: $(echo "$others" | head -n 1)"
-    return 1
+        [ ! -d "$path" ] || [ -x "$path" ] || continue
+        report "not all could be looked through: $line"
+        return 1
+    done
 }
 
 # each COMMAND..: runs it with the words that standard input has, one a line; not at all if there are none.
@@ -119,10 +113,8 @@ each() {
 
 # commands_of TARGET: `commands`, its command file.
 commands_of() {
-    case $1 in
-    */*) commands=${1%/*}/.${1##*/}.cmd ;;
-    *) commands=.$1.cmd ;;
-    esac
+    commands=${1##*/}
+    commands=${1%"$commands"}.$commands.cmd
 }
 
 # The same for a list, and from the command files to the targets.
@@ -136,10 +128,8 @@ to_targets() {
 # wants_table WORD: is it --by-directory?
 table=no
 wants_table() {
-    case $1 in
-    --by-directory | --by-folder) table=yes ;;
-    *) return 1 ;;
-    esac
+    [ "$1" = --by-directory ] || [ "$1" = --by-folder ] || return 1
+    table=yes
 }
 
 # directories_of TARGETS: the directories of these files, and those above them.
@@ -183,11 +173,8 @@ recorded() {
 # own, and in one of BusyBox its makefile.
 find_sources() {
     sources=${srctree:-.}
-    if [ "$dialect" = busybox ]; then
-        [ -e "$sources/Config.in" ] || sources=$(sed -n 's/^KERNELSRC *:= *//p' Makefile)
-    else
-        [ -e "$sources/Kconfig" ] || [ ! -e source/Kconfig ] || sources=source
-    fi
+    [ "$dialect" = busybox ] || [ -e "$sources/Kconfig" ] || [ ! -e source/Kconfig ] || sources=source
+    [ "$dialect" != busybox ] || [ -e "$sources/Config.in" ] || sources=$(sed -n 's/^KERNELSRC *:= *//p' Makefile)
 }
 
 # kconfigs: the Kconfig files that the project's tool has read, where they stand. Kbuild takes no path with a blank. A file here comes
@@ -195,12 +182,9 @@ find_sources() {
 kconfigs() {
     find_sources
     awk -v sources="$sources" '
-        /^deps_config := / { inside = 1; next }
-        !inside { next }
-        NF == 0 { exit }
-        sources == "." { print $1; next }
-        (getline line < $1) < 0 { print sources "/" $1; next }
-        { close($1); print $1 }
+        inside && NF == 0 { exit }
+        inside { print (sources != "." && (getline line < $1) < 0 ? sources "/" $1 : $1); close($1) }
+        /^deps_config := / { inside = 1 }
     ' "$read_kconfigs"
 }
 
@@ -236,14 +220,12 @@ ask_conf() {
     ) > "$tmpdir/messages" 2>&1 < /dev/null
 }
 
-# can_tell_declared: are the names known here that the project's Kconfig files declare? `declared` has them, in order, each once. Of a file
-# that can't be read nobody knows them.
+# can_tell_declared: are the names known here that the project's Kconfig files declare? `declared` has them. Of a file that can't be read
+# nobody knows them.
 can_tell_declared() {
-    {
-        [ -e "$read_kconfigs" ] && kconfigs > "$tmpdir/kconfigs" &&
-            each sed -nE 's/^[[:blank:]]*(menu)?config[[:blank:]]+([A-Za-z0-9_]+).*/\2/p' < "$tmpdir/kconfigs" > "$tmpdir/names" &&
-            sort -u "$tmpdir/names" > "$tmpdir/declared"
-    } 2> "$tmpdir/messages" && [ -s "$tmpdir/declared" ]
+    [ -e "$read_kconfigs" ] && kconfigs > "$tmpdir/kconfigs" 2> "$tmpdir/messages" &&
+        each sed -nE 's/^[[:blank:]]*(menu)?config[[:blank:]]+([A-Za-z0-9_]+).*/\2/p' < "$tmpdir/kconfigs" > "$tmpdir/declared" \
+            2> "$tmpdir/messages" && [ -s "$tmpdir/declared" ]
 }
 
 # Did the hooks make the last synchronisation? Linux's own tool writes auto.conf.cmd first, without the mark, and then
@@ -263,13 +245,12 @@ synchronised() {
 patiently() {
     messages=$1
     shift
-    status=0
-    "$confstamp" --wait 1 "$@" 2> "$messages" || status=$?
-    if [ "$status" = 75 ]; then
-        report 'waiting for another confstamp that is at work in this directory'
+    for seconds in 1 100; do
         status=0
-        "$confstamp" --wait 100 "$@" 2> "$messages" || status=$?
-    fi
+        "$confstamp" --wait "$seconds" "$@" 2> "$messages" || status=$?
+        [ "$status:$seconds" = 75:1 ] || break
+        report 'waiting for another confstamp that is at work in this directory'
+    done
     [ ! -s "$messages" ] || sed -i '/^confstamp: waiting /d' "$messages"
     return "$status"
 }
@@ -287,11 +268,8 @@ age_files() {
 # known, or the system fails.
 mark_due() {
     due=0
-    awk -v directory="$1" '
-        BEGIN { printf "" > (directory "/refused") }
-        /[^!-~]/ { print > (directory "/refused"); next }
-        { print > (directory "/part." int(count / 1000)); count++ }
-    ' "$1/targets"
+    : > "$1/refused"
+    awk -v directory="$1/" '{ print > (directory (/[^!-~]/ ? "refused" : "part." int((NR - 1) / 1000))) }' "$1/targets"
     while [ -n "${2:-}" ] && IFS= read -r object; do
         commands_of "$object"
         [ ! -e "$commands" ] || { rm -f "$commands" && due=$((due + 1)); }
@@ -316,17 +294,15 @@ age_to_come() {
     # shellcheck disable=SC2086 # the list is words, and Kbuild takes no path with a blank
     find_there $directories -maxdepth 1 ! -name '*.[chS]' ! -name '.*.cmd' -type f -newer "$1/now" > "$1/newer" || return 1
     [ -s "$1/newer" ] || return 0
-    : > "$1/ahead"
     awk -v ahead="$1/ahead" '
         FILENAME == ARGV[1] { recorded[$0]; next }
         { sub(/^\.\//, "") }
-        $0 in recorded { print > ahead; next }
-        { print }
+        { if ($0 in recorded) print > ahead; else print }
     ' "$2" "$1/newer" | while read -r product; do
         commands_of "$product"
         { [ ! -e "$commands" ] && [ "${product%_unstripped}" != busybox ]; } || echo "$product"
     done | age_files
-    [ ! -s "$1/ahead" ] || bring_to_now "$1"
+    [ ! -e "$1/ahead" ] || bring_to_now "$1"
 }
 
 # tools_to_come DIRECTORY: a tool that has a makefile of its own, as Linux's objtool, is made of objects that nobody records. As long as
@@ -409,9 +385,7 @@ by_count() {
 # refused, nothing was answered, or less than was wanted.
 count_answers() {
     awk -v wanted="${2:-1}" '
-        /^ / { next }
-        { answers++ }
-        { count[$2]++ }
+        !/^ / { answers++; count[$2]++ }
         END {
             printf "%d objects: %d fresh, %d stale, %d refused\n", answers, count["fresh"], count["stale"], count["refused"]
             exit answers < wanted || count["refused"] ? 2 : count["stale"] > 0
@@ -423,8 +397,7 @@ count_answers() {
 # most of them are stale by. The directory with the most comes first.
 by_directory() {
     awk '
-        /^ / { next }
-        {
+        !/^ / {
             directory = $1
             if (!sub(/\/[^\/]*$/, "", directory)) directory = "."
             all[directory]++
@@ -437,10 +410,9 @@ by_directory() {
             }
         }
     ' | sort -k1,1nr -k3,3 -k4,4nr -k5,5 | awk '
-        $3 != directory { if (directory != "") print line; directory = $3; shown = 0; line = sprintf("%7d of %5d %s:", $1, $2, $3) }
-        shown++ < 3 { line = line (shown > 1 ? ", " : " ") $5 }
-        shown == 4 { line = line ", .." }
-        END { if (directory != "") print line }
+        $3 != directory { printf "%s%7d of %5d %s: %s", end, $1, $2, $3, $5; directory = $3; shown = 1; end = "\n"; next }
+        ++shown < 5 { printf ", %s", shown < 4 ? $5 : ".." }
+        END { printf "%s", end }
     '
 }
 

@@ -1,6 +1,6 @@
 # SPDX-License-Identifier: Apache-2.0 OR MIT
 # What the hooks share; sourced by them.
-# shellcheck shell=sh disable=SC2034
+# shellcheck shell=sh disable=SC2016,SC2034
 
 set -eu
 LC_ALL=C
@@ -337,6 +337,16 @@ bring_to_now() {
     ' "$1/files-ahead" "$1/made-of" "$1/ahead" | each touch -c
 }
 
+# A function of awk: a path without `.`, and without `..` but at its front.
+plain_path='
+    function plain(path) {
+        while (sub(/\/\.?\//, "/", path)) continue
+        while (sub(/([^\/.]|\.[^\/.]|\.\.[^\/])[^\/]*\/\.\.\//, "", path)) continue
+        sub(/^\.\//, "", path)
+        return path
+    }
+'
+
 # listing WORD..: of the files that find WORD.. finds lines `MTIME CTIME PATH`, to the nanosecond; with_times: of those of a list. What is gone
 # meanwhile has none.
 listing() {
@@ -421,84 +431,57 @@ by_directory() {
 # and the synchronised configuration, and part of a module by the other. A line whose symbol isn't plain counts as y, and so does a
 # directory, or an object, that no line names, and an external module, whose symbols may be words of make. ask_conf comes before.
 judge_builds() {
-    makefiles=$(directories_of "$tmpdir/targets" | sed '/^\.\./d' | while read -r directory; do
-        for makefile in Kbuild Makefile; do
-            [ ! -f "$sources/$directory/$makefile" ] || echo "$sources/$directory/$makefile"
-        done
-    done)
-    grep -s '^CONFIG_[A-Za-z0-9_]*=[ym]$' "$auto" "$asked/.config" > "$tmpdir/values" || :
+    makefiles=$(directories_of "$tmpdir/targets" | sed 's,^\./,,; /^\.\./d; s,$,/Kbuild,p; s,Kbuild$,Makefile,' |
+        while read -r makefile; do [ ! -f "$sources/$makefile" ] || echo "$sources/$makefile"; done)
+    sed -n 's/^CONFIG_\([A-Za-z0-9_]*\)=\([ym]\)$/old \1 \2/p' "$auto" > "$tmpdir/values" 2> "$tmpdir/messages" || :
+    sed -n 's/^CONFIG_\([A-Za-z0-9_]*\)=\([ym]\)$/new \1 \2/p' "$asked/.config" >> "$tmpdir/values"
     # shellcheck disable=SC2086 # the list is words, and Kbuild takes no path with a blank
-    awk -v sources="$sources/" -v synchronised="$auto" '
-        # A path without `.` and `..`.
-        function plain(path) {
-            while (sub(/\/\.?\//, "/", path)) continue
-            while (sub(/[^\/]+\/\.\.\//, "", path)) continue
-            sub(/^\.\//, "", path)
-            return path
-        }
-        # stem-selector += words
-        function read_line(directory, line,    equals, name, words, count, place, dash, stem, selector, whole, path) {
-            sub(/[ \t]*#.*/, "", line)
-            if (line !~ /^[ \t]*[A-Za-z0-9_\/.-]+-[^ \t:=+?]+[ \t]*[:+?]?=/) return
-            equals = index(line, "=")
-            name = substr(line, 1, equals - 1)
-            gsub(/[ \t:+?]/, "", name)
-            count = split(substr(line, equals + 1), words, /[ \t]+/)
-            dash = match(name, /-\$\(.*$/) ? RSTART : match(name, /-[^-]*$/) ? RSTART : 0
-            stem = substr(name, 1, dash - 1)
-            selector = substr(name, dash + 1)
-            whole = stem ~ /^(obj|lib|extra|always|core|libs|drivers|net|targets|hostprogs)$/ ? "" : plain(directory "/" stem ".o")
-            for (place = 1; place <= count; place++) {
-                if (words[place] !~ /\.o$|\/$/) continue
-                path = plain(directory "/" words[place])
-                lines[path]++
-                of[path, lines[path]] = whole
-                by[path, lines[path]] = selector
-            }
-        }
+    awk -v sources="$sources/" "$plain_path"'
         function selected(time, selector,    name) {
-            if (selector !~ /^\$\(CONFIG_[A-Za-z0-9_]+\)$/) return "y"
-            name = substr(selector, 10, length(selector) - 10)
+            if (selector !~ /^-\$\(CONFIG_[A-Za-z0-9_]+\)$/) return "y"
+            name = substr(selector, 11, length(selector) - 11)
             if (value["old", name] != value["new", name]) reason = name
-            return value[time, name] == "" ? "n" : value[time, name]
+            return value[time, name]
         }
-        # How an object or a directory is built by its own lines. Part of another object it is as that one, or not at all.
-        function built(time, path, depth,    place, best, one) {
+        # How an object or a directory is built by its own lines: y, m, or not. Part of another object it is as that one, or not at all.
+        function built(time, path, depth,    line, count, place, best, one) {
             if (!(path in lines) || depth > 9) return "y"
-            best = "n"
-            for (place = 1; place <= lines[path]; place++) {
-                one = selected(time, by[path, place])
-                if (of[path, place] != "" && one != "n") one = built(time, of[path, place], depth + 1)
-                if (one == "y" || one == "m" && best == "n") best = one
+            count = split(lines[path], line, " ")
+            for (place = 1; place < count; place += 2) {
+                one = selected(time, line[place])
+                if (one != "" && line[place + 1] != "-") one = built(time, line[place + 1], depth + 1)
+                if (one == "y" || best == "") best = one
             }
             return best
         }
-        function above(time, path) {
-            while (sub(/[^\/]+\/?$/, "", path) && path != "") if (built(time, path, 0) == "n") return "n"
-            return "y"
-        }
-        FILENAME == ARGV[1] {
-            time = index($0, synchronised ":") == 1 ? "old" : "new"
-            sub(/.*:CONFIG_/, "")
-            value[time, substr($0, 1, length($0) - 2)] = substr($0, length($0))
-            next
-        }
+        FILENAME ~ /values$/ { value[$1, $2] = $3; next }
+        # Lines `stem-selector += words`: `lines` has for each word the selectors with their dashes, each before the whole that the stem
+        # names, or another dash.
         FILENAME ~ /\/(Kbuild|Makefile)$/ {
-            text = (FNR == 1 ? "" : text) $0
-            if (sub(/\\$/, " ", text)) next
+            $0 = (FNR == 1 ? "" : text) $0
+            text = ""
+            if (sub(/\\$/, " ")) { text = $0; next }
+            sub(/[ \t]*#.*/, "")
+            if (!/^[ \t]*[A-Za-z0-9_\/.-]+-[^ \t:=+?]+[ \t]*[:+?]?=/) next
+            sub(/[ \t]*[:+?]?=/, " ")
             directory = substr(FILENAME, length(sources) + 1)
             sub(/[^\/]*$/, "", directory)
-            read_line(directory, text)
-            text = ""
+            match($1, /-\$\(.*$/) || match($1, /-[^-]*$/)
+            stem = substr($1, 1, RSTART - 1)
+            whole = stem ~ /^(obj|lib|extra|always|core|libs|drivers|net|targets|hostprogs)$/ ? "-" : plain(directory stem ".o")
+            for (place = 2; place <= NF; place++) {
+                path = plain(directory $place)
+                if (path ~ /\.o$|\/$/) lines[path] = lines[path] " " substr($1, length(stem) + 1) " " whole
+            }
             next
         }
         {
-            new = built("new", $1, 0)
-            if (above("new", $1) == "n") new = "n"
+            new = built("new", $1)
+            for (path = $1; sub(/[^\/]+\/?$/, "", path) && path != "";) if (built("new", path) == "") new = ""
             reason = ""
-            old = built("old", $1, 0)
-            if (new == "n" && $2 == "stale") $0 = $1 " left"
-            if (new != "n" && $2 == "fresh" && old != "n" && old != new && reason != "") $0 = $1 " stale " reason "=" new
+            old = built("old", $1)
+            if (new == "" && $2 == "stale") $0 = $1 " left"
+            if (new != "" && $2 == "fresh" && old != "" && old != new && reason != "") $0 = $1 " stale " reason "=" new
             print
         }
     ' "$tmpdir/values" $makefiles "$tmpdir/answers"

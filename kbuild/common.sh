@@ -486,3 +486,37 @@ judge_builds() {
         }
     ' "$tmpdir/values" $makefiles "$tmpdir/answers"
 }
+
+# list_recorded LIST ASIDE [FOUND]: what a list of records names, each once: `targets` has the name that its last record has, since
+# `make M=DIR` may name an object of this tree by its whole path; `recorded` has its path in the tree. A list with most lines several times
+# gets each once, and so it does with FOUND in front of it, by ASIDE.new; what another make adds to the old one meanwhile is added to the
+# new one. make writes into it, so it belongs to the owner of the directory, also after a make of root.
+list_recorded() {
+    [ -e "$1" ] || : > "$1"
+    awk -v tmpdir="$tmpdir" -v tree="$PWD/" '
+        FILENAME == ARGV[ARGC - 1] { lines++ }
+        $1 != "record" { if (NR == 1) first = $0 "\n"; next }
+        !($0 in last) { once++ }
+        { text[NR] = $0; last[$0] = NR; path = index($2, tree) == 1 ? substr($2, length(tree) + 1) : $2 }
+        !(path in named) { paths[++count] = path }
+        { named[path] = $2 }
+        END {
+            printf "" > (tmpdir "/recorded")
+            for (place = 1; place <= count; place++) {
+                print named[paths[place]]
+                print paths[place] > (tmpdir "/recorded")
+            }
+            if (ARGC == 2 && lines <= 3 * once + 100) exit
+            printf "%s", first > (tmpdir "/list")
+            for (place = 1; place <= NR; place++) if (last[text[place]] == place) print text[place] > (tmpdir "/list")
+            print lines + 1 > (tmpdir "/lines")
+        }
+    ' ${3:+"$3"} "$1" > "$tmpdir/targets"
+    [ -e "$tmpdir/lines" ] || return 0
+    mv -f "$tmpdir/list" "$2.new"
+    chown "$(stat -c %u:%g "${1%/*}")" "$2.new" 2> "$tmpdir/messages" || :
+    ln -f "$1" "$2.old"
+    mv -f "$2.new" "$1"
+    tail -n "+$(cat "$tmpdir/lines")" "$2.old" >> "$1"
+    rm "$2.old" "$tmpdir/lines"
+}

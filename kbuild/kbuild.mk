@@ -20,10 +20,8 @@ confstamp-named = $(if $(confstamp-elsewhere),$(abspath $(1)),$(1))
 # With CONFSTAMP_VERIFY each record is compared with the project's own fixdep, and each synchronisation with its own conf. In a
 # tree whose version was not tried, so it is until a make of all has ended well.
 confstamp-verified = $(if $(confstamp-elsewhere),$(confstamp-elsewhere)/)include/config/confstamp.verified-all
-ifndef CONFSTAMP_VERIFY
-ifeq ($(confstamp-untried)$(wildcard $(confstamp-verified)),yes)
+ifeq ($(CONFSTAMP_VERIFY):$(confstamp-untried)$(wildcard $(confstamp-verified)),:yes)
 export CONFSTAMP_VERIFY := first
-endif
 endif
 confstamp-verifies = $(filter-out 0 no,$(CONFSTAMP_VERIFY))
 
@@ -39,18 +37,15 @@ confstamp-by-hook = $(confstamp-verifies)$(confstamp-elsewhere)$(and $(confstamp
 confstamp-hook = $(CONFSTAMP_KBUILD)/fixdep $(confstamp-dialect) $(if $(confstamp-in-place),--in-place) \
 	$(if $(confstamp-elsewhere),--tree $(objtree)) \
 	$(if $(confstamp-verifies),--verify $(or $(objtree),.)/$(or $(confstamp-fixdep),scripts/basic/fixdep))
-confstamp-directly = { $(CONFSTAMP) record --remove-depfile $(if $(confstamp-prefix),--cmd) $(confstamp-early) -- "$$2" "$$3" "$$4" \
-	> /dev/null 2>&1 && exit; }
+confstamp-directly = { $(CONFSTAMP) $(confstamp-dialect) record $(if $(confstamp-dialect),--cmd,--remove-depfile $(if \
+	$(confstamp-prefix),--cmd)) $(confstamp-early) -- "$$2" "$$3" "$$4" > /dev/null 2>&1 $(confstamp-and-then); }
 
 # Where there is no auto.conf yet, as for the first host programs, a record has the number 0.
 confstamp-early = $(if $(wildcard include/config/auto.conf),,--before-sync)
 
 # The makefiles of U-Boot and BusyBox write the command file aside, and move it to its place behind the call of fixdep; those of Xen don't.
 # The sources are scanned for the project's own patterns. Xen's are those of Linux, U-Boot has more, and Xen's conf is as old as U-Boot's.
-ifdef confstamp-dialect
-confstamp-directly = { $(CONFSTAMP) $(confstamp-dialect) record --cmd $(confstamp-early) -- "$$2" "$$3" "$$4" > /dev/null 2>&1 \
-	$(if $(confstamp-in-place),,&& cat $(confstamp-command-file)); }
-endif
+confstamp-and-then = $(if $(confstamp-dialect),$(if $(confstamp-in-place),,&& cat $(confstamp-command-file)),&& exit)
 
 # Without auto.conf the conf of Xen and U-Boot touches all symbols. So it becomes an old file where their make would remove it, and their own
 # tools synchronise as well; and before each synchronisation: U-Boot's make takes flags and SOC from one that is no older than .config.
@@ -85,7 +80,8 @@ endif
 
 # An object is also listed as one that was recorded in this tree, or, where it stands elsewhere, in the directory of this external module;
 # of a module, together with the directory as make was given it.
-confstamp-begin = $(if $(confstamp-only-asked),,$(if $(wildcard $(confstamp-records)),$(confstamp-list)))
+confstamp-begin = $(if $(confstamp-only-asked),,$(if $(wildcard $(confstamp-records)),$(call \
+	confstamp-write,>> $(confstamp-records),$(strip record $(confstamp-target) $(confstamp-module)))))
 confstamp-command-file = $(@D)/.$(@F).cmd
 confstamp-module = $(if $(confstamp-elsewhere),$(CURDIR),$(KBUILD_EXTMOD))
 confstamp-records = $(if $(confstamp-outside),$(if $(confstamp-elsewhere),.,$(KBUILD_EXTMOD))/.confstamp.records,$(if \
@@ -95,12 +91,14 @@ confstamp-target = $(call confstamp-named,$@)
 
 # In front of the command of the kernel's conf, or of BusyBox's.
 confstamp-syncconfig = $(if $(filter syncconfig silentoldconfig,$@),$(CONFSTAMP_KBUILD)/syncconfig $(confstamp-dialect) \
-	$(if $(confstamp-project),--project $(confstamp-project)) $(if $(findstring s,$(firstword -$(MAKEFLAGS))),--quiet))
+	$(if $(confstamp-project),--project $(confstamp-project)) $(if $(findstring s,$(confstamp-options)),--quiet))
 
 # BusyBox's .config has a fixed place. What a synchronisation writes last is its header, and make then splits that into stamps. This
 # empties confstamp.h, a header of no symbol, so a synchronisation without the hooks is seen by it. `make oldconfig` writes the header
 # as well, and so does a synchronisation that is killed: then the old .config may come back, so the header's text counts too.
 # `make mrproper` removes the header of confstamp as well.
+confstamp-config = $(KCONFIG_CONFIG)
+confstamp-last-file = include/config/auto.conf
 ifeq ($(confstamp-dialect),--dialect busybox)
 confstamp-config = .config
 confstamp-last-file = include/autoconf.h
@@ -109,9 +107,6 @@ confstamp-header = include/config/confstamp.header
 override cmd_split_autoconf = scripts/basic/split-include include/autoconf.h include/config && \
 	echo '/* Split by the hooks of confstamp */' > $(confstamp-ours)
 MRPROPER_DIRS += include/generated
-else
-confstamp-config = $(KCONFIG_CONFIG)
-confstamp-last-file = include/config/auto.conf
 endif
 
 # Has auto.conf another generation than the hook's last one, or none, or is .config not the text that was synchronised then?
@@ -124,6 +119,9 @@ define confstamp-line-feed
 
 endef
 ifeq ($(filter 3.% 4.0% 4.1%,$(MAKE_VERSION)),)
+confstamp-read = $(file < $(1))
+confstamp-write = $(file $(1),$(2))
+confstamp-empty = $(file > $(1))
 confstamp-last = $(strip $(file < include/config/confstamp.generation))
 confstamp-number = $(and $(confstamp-last),$(findstring $(confstamp-line-feed)$(confstamp-last)$(confstamp-line-feed),$(file \
 	< include/config/auto.conf)$(confstamp-line-feed)))
@@ -137,6 +135,9 @@ confstamp-alone = $(if $(confstamp-dialect),yes,$(findstring $(confstamp-mark),$
 confstamp-synchronised = $(and $(confstamp-number),$(confstamp-split),$(confstamp-alone),$(call confstamp-same,$(file \
 	< $(confstamp-config)),$(file < include/config/confstamp.config)))
 else
+confstamp-read = $(shell cat $(1) 2> /dev/null)
+confstamp-write = $(shell echo '$(2)' $(1))
+confstamp-empty = $(shell : > $(1))
 confstamp-synchronised = $(shell grep -qsxFf include/config/confstamp.generation include/config/auto.conf && \
 	cmp -s $(confstamp-config) include/config/confstamp.config $(if $(confstamp-ours),&& [ -s $(confstamp-ours) ] && \
 	cmp -s $(confstamp-last-file) $(confstamp-header)) \
@@ -175,22 +176,7 @@ confstamp-never = $(error confstamp has synchronised $(MAKE_RESTARTS) times, and
 # of BusyBox's `make oldconfig`. The recipe is empty, so no process is started. This directory stands after the word. Where that is
 # another one the tree may be a copy by hard links, and what is written into here must not be a file of the other tree.
 confstamp-make-mark = include/config/confstamp.make
-ifndef confstamp-whole
-confstamp-whole = $(if $(confstamp-dialect),_all,all)
-endif
-ifeq ($(filter 3.% 4.0% 4.1%,$(MAKE_VERSION)),)
-confstamp-empty = $(file > $(1))
-confstamp-list = $(file >> $(confstamp-records),$(strip record $(confstamp-target) $(confstamp-module)))
-confstamp-write-make-mark = $(file > $(confstamp-make-mark),$(1) $(CURDIR))
-confstamp-verified-all = $(file > $(confstamp-verified),ended)
-confstamp-read-make-mark = $(file < $(confstamp-make-mark))
-else
-confstamp-empty = $(shell : > $(1))
-confstamp-list = $(shell echo '$(strip record $(confstamp-target) $(confstamp-module))' >> $(confstamp-records))
-confstamp-write-make-mark = $(shell echo '$(1) $(CURDIR)' > $(confstamp-make-mark))
-confstamp-verified-all = $(shell echo ended > $(confstamp-verified))
-confstamp-read-make-mark = $(shell cat $(confstamp-make-mark) 2> /dev/null)
-endif
+confstamp-whole ?= $(if $(confstamp-dialect),_all,all)
 confstamp-options = $(firstword -$(MAKEFLAGS))
 confstamp-only-asked = $(CONFSTAMP_ASKS)$(findstring n,$(confstamp-options))$(findstring q,$(confstamp-options))
 confstamp-marked = $(if $(KBUILD_EXTMOD)$(confstamp-only-asked),,$(wildcard include/config/auto.conf))
@@ -198,13 +184,15 @@ confstamp-goals = $(or $(MAKECMDGOALS),all)
 confstamp-goals-of-all = all _all __all $(confstamp-whole:_%=%)
 confstamp-begun = $(if $(filter $(confstamp-goals-of-all),$(confstamp-goals)),begun,$(if $(filter begun \
 	part,$(confstamp-left-mark))$(filter .kernelrelease,$(confstamp-goals)),,part))
-confstamp-left-mark = $(or $(firstword $(confstamp-read-make-mark)),$(if $(wildcard $(confstamp-make-mark)),begun))
-confstamp-ended = $(if $(confstamp-marked),$(if $(findstring i,$(confstamp-options)),,$(call confstamp-write-make-mark,ended)$(if \
-	$(confstamp-verifies),$(confstamp-verified-all))))
-confstamp-its-own = $(if $(filter-out $(CURDIR),$(word 2,$(confstamp-read-make-mark))),$(shell find . -name .git -prune -o \
+confstamp-left = $(call confstamp-read,$(confstamp-make-mark))
+confstamp-left-mark = $(or $(firstword $(confstamp-left)),$(if $(wildcard $(confstamp-make-mark)),begun))
+confstamp-ended = $(if $(confstamp-marked),$(if $(findstring i,$(confstamp-options)),,$(call confstamp-leave,ended)$(if \
+	$(confstamp-verifies),$(call confstamp-write,> $(confstamp-verified),ended))))
+confstamp-leave = $(call confstamp-write,> $(confstamp-make-mark),$(1) $(CURDIR))
+confstamp-its-own = $(if $(filter-out $(CURDIR),$(word 2,$(confstamp-left))),$(shell find . -name .git -prune -o \
 	\( -name '.*.cmd' -o -path './include/config/confstamp.[!t]*' \) -type f -links +1 -exec sed -i '' {} +))
 define confstamp-marks
-$(if $(confstamp-marked),$(confstamp-its-own)$(if $(confstamp-begun),$(call confstamp-write-make-mark,$(confstamp-begun))))
+$(if $(confstamp-marked),$(confstamp-its-own)$(if $(confstamp-begun),$(call confstamp-leave,$(confstamp-begun))))
 $(if $(KBUILD_EXTMOD),,$(confstamp-whole): ; $$(confstamp-ended))
 endef
 
@@ -248,17 +236,13 @@ endef
 endif
 confstamp-object = $(if $(strip $(confstamp-newer) $(confstamp-other)),$(info confstamp-rebuild $(call confstamp-named,$@) \
 	'$(make-cmd)' $(call confstamp-named,$(confstamp-newer))))
-confstamp-parts = $(if $(filter %.o %.a,$^),$(info confstamp-linked $(call confstamp-named,$@) same $(call \
-	confstamp-named,$(filter %.o %.a,$^))))
-confstamp-link = $(info confstamp-linked $(call confstamp-named,$@) $(if $(strip $(confstamp-other)),differs,same) $(call \
-	confstamp-named,$(filter-out $(PHONY) $(2),$^)))
+confstamp-linked = $(info confstamp-linked $(call confstamp-named,$@) $(1) $(call confstamp-named,$(2)))
+confstamp-parts = $(if $(filter %.o %.a,$^),$(call confstamp-linked,same,$(filter %.o %.a,$^)))
+confstamp-link = $(call confstamp-linked,$(if $(strip $(confstamp-other)),differs,same),$(filter-out $(PHONY) $(2),$^))
 confstamp-visited = $(info confstamp-visited $(call confstamp-named,$@))$(if \
 	$(deps_$@),$(confstamp-object)$(confstamp-parts),$(confstamp-link))
-confstamp-rebuild = $(if $(filter $(PHONY),$@),,$(confstamp-visited))@:
-override if_changed_dep = $(confstamp-rebuild)
-override if_changed_rule = $(confstamp-rebuild)
-override if_changed = $(confstamp-rebuild)
-override if_changed_except = $(confstamp-rebuild)
-override cmd = $(if $(confstamp-ours),$(if $(wildcard $@),$(info confstamp-linked $@ same $(filter-out $(PHONY),$^))))@:
+$(foreach word,if_changed_dep if_changed_rule if_changed if_changed_except,$(eval override $(word) = $$(if $$(filter \
+	$$(PHONY),$$@),,$$(confstamp-visited))@:))
+override cmd = $(if $(confstamp-ours),$(if $(wildcard $@),$(call confstamp-linked,same,$(filter-out $(PHONY),$^))))@:
 autoksyms_recursive: private SHELL := true
 endif

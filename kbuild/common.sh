@@ -3,6 +3,7 @@
 # shellcheck shell=sh disable=SC2016,SC2034
 
 set -eu
+CDPATH=''
 LC_ALL=C
 export LC_ALL
 

@@ -491,7 +491,8 @@ judge_builds() {
 # list_recorded LIST ASIDE [FOUND]: what a list of records names, each once: `targets` has the name that its last record has, since
 # `make M=DIR` may name an object of this tree by its whole path; `recorded` has its path in the tree. A list with most lines several times
 # gets each once, and so it does with FOUND in front of it, by ASIDE.new; what another make adds to the old one meanwhile is added to the
-# new one. make writes into it, so it belongs to the owner of the directory, also after a make of root.
+# new one. In a file system without hard links a long list stays. make writes into it, so it belongs to the owner of the directory, also
+# after a make of root.
 list_recorded() {
     [ -e "$1" ] || : > "$1"
     awk -v tmpdir="$tmpdir" -v tree="$PWD/" '
@@ -514,9 +515,9 @@ list_recorded() {
         }
     ' ${3:+"$3"} "$1" > "$tmpdir/targets"
     [ -e "$tmpdir/lines" ] || return 0
+    ln -f "$1" "$2.old" 2> "$tmpdir/messages" || { [ -n "${3:-}" ] && cp "$1" "$2.old"; } || { rm "$tmpdir/lines" && return; }
     mv -f "$tmpdir/list" "$2.new"
     chown "$(stat -c %u:%g "${1%/*}")" "$2.new" 2> "$tmpdir/messages" || :
-    ln -f "$1" "$2.old"
     mv -f "$2.new" "$1"
     tail -n "+$(cat "$tmpdir/lines")" "$2.old" >> "$1"
     rm "$2.old" "$tmpdir/lines"

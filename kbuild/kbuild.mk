@@ -190,7 +190,8 @@ confstamp-ended = $(if $(confstamp-marked),$(if $(findstring i,$(confstamp-optio
 	$(confstamp-verifies),$(call confstamp-write,> $(confstamp-verified),ended))))
 confstamp-leave = $(call confstamp-write,> $(confstamp-make-mark),$(1) $(CURDIR))
 confstamp-its-own = $(if $(filter-out $(CURDIR),$(word 2,$(confstamp-left))),$(shell find . -name .git -prune -o \
-	\( -name '.*.cmd' -o -path './include/config/confstamp.[!t]*' \) -type f -links +1 -exec sed -i '' {} +))
+	\( -name '.*.cmd' -o -path './include/config/confstamp.[!t]*' \) -type f -links +1 -exec sed -i '' {} +)$(call \
+	confstamp-leave,$(confstamp-left-mark)))
 define confstamp-marks
 $(if $(confstamp-marked),$(confstamp-its-own)$(if $(confstamp-begun),$(call confstamp-leave,$(confstamp-begun))))
 $(if $(KBUILD_EXTMOD),,$(confstamp-whole): ; $$(confstamp-ended))

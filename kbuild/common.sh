@@ -20,6 +20,7 @@ here=${0%/*}
 auto=include/config/auto.conf
 synced_config=include/config/confstamp.config
 generation_file=include/config/confstamp.generation
+numbers_name=include/config/confstamp.numbers
 records=include/config/confstamp.records
 module_records=.confstamp.records
 dialects=include/config/confstamp.dialect
@@ -151,17 +152,34 @@ nothing_here() {
     echo "nothing was recorded below ${*:-.}: run it in the directory where make runs"
 }
 
+# numbers_here: what distinguishes the numbers of this tree from those of other trees, of its copies, and of before `make mrproper`.
+numbers_here() {
+    echo "$(cat "$numbers_name") $(pwd -P)"
+}
+
+# has_other_numbers DIR: was the external module there recorded by other numbers than these? What they say is nothing then.
+has_other_numbers() {
+    case $(cd "$1" && pwd -P)/ in
+    "$(pwd -P)"/*) return 1 ;;
+    esac
+    [ -s "$numbers_name" ] && [ -e "$1/.confstamp.generation" ] && ! grep -qxF -e "$(numbers_here)" "$1/.confstamp.generation"
+}
+
 # recorded DIR..: writes the recorded objects that exist to `targets`, the others to `answers`. Objects that were never recorded, or whose
 # command file was emptied, are targets too, except hidden ones, which are steps of the link of vmlinux, and which make doesn't record.
 recorded() {
     "$here/objects" "$@" > "$tmpdir/recorded"
-    while read -r target; do
+    for directory; do
+        ! has_other_numbers "$directory" || "$here/objects" "$directory"
+    done > "$tmpdir/others"
+    sed 's/$/ stale not-numbered/' "$tmpdir/others" > "$tmpdir/answers"
+    awk 'FILENAME == ARGV[1] { other[$0]; next } !($0 in other)' "$tmpdir/others" "$tmpdir/recorded" | while read -r target; do
         if [ -e "$target" ]; then
             echo "$target" >&3
         else
             echo "$target stale no-object"
         fi
-    done < "$tmpdir/recorded" 3> "$tmpdir/targets" > "$tmpdir/answers"
+    done 3> "$tmpdir/targets" >> "$tmpdir/answers"
     [ "$#" -gt 0 ] || set -- .
     find_there -H "$@" \( -name '[!.]*.o' -o -name '.[!.]*.cmd' -size 0 \) -type f > "$tmpdir/found" || exit 2
     to_targets "$tmpdir/found" | sed 's,^\./,,' | sort -u | while read -r object; do

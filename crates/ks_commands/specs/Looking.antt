@@ -287,6 +287,7 @@ look_by dialect header alias command r = record {
   command = command;
 }
 
+-- The first reads gave the dependency file and auto.conf, and by these this was found of the files.
 abbrev pub AreFilesLooked : Dialect → Header → List ℕ → Files → List ℕ → List ℕ → Option Hidden → Type 0
 AreFilesLooked dialect header alias files depfile command found =
     (r : FirstRead files depfile) × IsFound (look_by dialect header alias command r) files r.listed found

@@ -139,12 +139,18 @@ EndsDiff dialect report_style files c ended =
     × ReportsUnknown text status (lines_asked report_style (unknown_of (source_at dialect c.form t))) ended)
     ⊎ StoppedSync files (source_at dialect c.form t) ended))
 
--- What the tree is, printed, and beside the configuration where one is named; or why that is refused.
+-- What the tree is beside these inputs, printed; or why auto.conf or the header is refused.
+abbrev pub EndsTreeStatus : Files → Dialect → Option ConfigInputs → Ending → Type 0
+EndsTreeStatus files dialect inputs ended =
+    ((e : EngineError) × (IsAborted e ⊎ IsStatusRefused files e) × (ended ≡ Err (Engine e)))
+    ⊎ ((s : TreeStatus) × IsTreeStatus files dialect inputs s × Reports (status_lines s) (status_code s) ended)
+
+-- The configuration is refused, where one is named; or it ends as the tree beside it is.
 abbrev pub EndsStatus : Dialect → Files → Option ConfigPaths → Ending → Type 0
 EndsStatus dialect files config ended =
-    ((e : EngineError) × (IsAborted e ⊎ (IsRefusedSource dialect files config e ⊎ IsStatusRefused files e)) × (ended ≡ Err (Engine e)))
+    ((e : EngineError) × (IsAborted e ⊎ IsRefusedSource dialect files config e) × (ended ≡ Err (Engine e)))
     ⊎ ((source : Option Source) × (source_named dialect files config ≡ Ok source) × (inputs : Option ConfigInputs) × AreInputsOf source inputs
-    × (s : TreeStatus) × IsTreeStatus files dialect inputs s × Reports (status_lines s) (status_code s) ended)
+    × EndsTreeStatus files dialect inputs ended)
 
 abbrev pub EndsFixdep : Dialect → Files → List ℕ → List ℕ → List ℕ → Ending → Type 0
 EndsFixdep dialect files d t c ended =

@@ -60,9 +60,10 @@ pub record IsTreeStatus (files : Files) (dialect : Dialect) (inputs : Option Con
   pub header : s.header ≡ header_state dialect auto.texts (content files header_path)
   pub changed : Counts inputs auto.texts s.changed
 
--- Auto.conf is refused, or the header is too large.
+-- Auto.conf is refused, or else the header is too large.
 abbrev pub IsStatusRefused : Files → EngineError → Type 0
-IsStatusRefused files e = (old_auto (content files auto_path) ≡ Err e) ⊎ (IsTooLarge (content files header_path) × (e ≡ TooLarge))
+IsStatusRefused files e = (old_auto (content files auto_path) ≡ Err e)
+    ⊎ ((auto : OldAuto) × (old_auto (content files auto_path) ≡ Ok auto) × IsTooLarge (content files header_path) × (e ≡ TooLarge))
 
 -- ---- how it is printed
 

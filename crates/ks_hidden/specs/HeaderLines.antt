@@ -1,6 +1,6 @@
 -- Which lines of a C header a configuration explains: empty ones, comments, and the definitions that confstamp writes of its entries. That a
 -- header with any other line is told from those is a rule of this project.
-use Rattle.std.specs.Prelude.{ℕ, ◌+◌, Bool, ◌||◌, ◌&&◌, not, false, nat_eq, List, [], ◌∷◌, ◌++◌, ◌==◌, length, codes, bytes_eq, Option, Some, None, if◌then◌else◌}
+use Rattle.std.specs.Prelude.{ℕ, ◌+◌, Bool, ◌||◌, ◌&&◌, not, false, true, nat_eq, List, [], ◌∷◌, ◌++◌, ◌==◌, length, codes, bytes_eq, Option, Some, None, if◌then◌else◌}
 use Rattle.std.specs.List.{ends_with, list_any, starts_with}
 use Rattle.std.specs.FinMap as map
 use Rattle.ks_symbols.specs.declared.dialect.Dialect.{Dialect}
@@ -84,10 +84,10 @@ foreign_line d texts header = foreign_from d texts false 1 (lines header)
 abbrev pub has_line : List (List ℕ) → List ℕ → Bool
 has_line ls line = list_any (bytes_eq line) ls
 
--- whether an entry's definition is none of the lines: one without a class has none
+-- whether an entry's definition is none of the lines: nobody knows that of one without a class
 abbrev pub is_lacking : List (List ℕ) → List ℕ × (Option Class × List ℕ) → Bool
 is_lacking ls (name, (Some k, text)) = not (has_line ls (definition name (kind_for k) text))
-is_lacking ls entry = false
+is_lacking ls entry = true
 
 -- whether the definition of some entry is no line of the header
 unfoldable pub lacks : Texts → List ℕ → Bool

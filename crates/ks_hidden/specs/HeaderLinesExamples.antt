@@ -63,4 +63,4 @@ LackingDefinitions =
     × (lacks_a (codes "#define CONFIG_A 1\n") (Some class.Switch) (codes "m") ≡ true)
     × (lacks_a (codes " #define CONFIG_A 1\n") (Some class.Switch) (codes "y") ≡ true)
     × (lacks_a [] (Some class.Switch) (codes "y") ≡ true)
-    × (lacks_a [] None (codes "y") ≡ false)
+    × (lacks_a [] None (codes "y") ≡ true)

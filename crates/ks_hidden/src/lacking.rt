@@ -43,7 +43,7 @@ fn is_defined(
     Ok(held.contains(aside.as_slice()))
 }
 
-/// Whether the definition of some entry that has a class is no line of the header.
+/// Whether the definition of some entry is no line of the header. Of an entry without a class nobody knows the definition.
 pub fn lacks_definition(
     alloc: Global,
     seed: Seed,
@@ -55,10 +55,11 @@ pub fn lacks_definition(
     let held = line_set(alloc, seed, header)?;
     let mut aside = Vec::new(alloc);
     for (name, class, text) in config.entries() {
-        if let Some(class) = class {
-            if !is_defined(&held, name, class, text, &mut aside)? {
-                return Ok(true);
-            }
+        let Some(class) = class else {
+            return Ok(true);
+        };
+        if !is_defined(&held, name, class, text, &mut aside)? {
+            return Ok(true);
         }
     }
     Ok(false)

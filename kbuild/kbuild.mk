@@ -220,7 +220,8 @@ $(foreach word,newer-prereqs any-prereq arg-check cmd-check,$(eval $(word) = $$(
 #   - confstamp-rebuild: of an object with a list of dependencies that isn't up to date, its command as a word of the shell, and
 #     the files that make takes for newer. It takes all for newer of what it would rewrite;
 #   - confstamp-linked: of what is made of other files whether its command differs, and these files. vmlinux is an object of
-#     both kinds. BusyBox links without a saved command, each time, so what counts there is these files;
+#     both kinds. U-Boot writes its environment without a saved command, each time. BusyBox links so, and what counts there is
+#     these files. A step that make removed behind it is gone, and no reason by itself. dtoc writes its files by one rule;
 #   - confstamp-text: a text that would come out otherwise. The commands that print it run, since they show it.
 # A line that has $(MAKE) in it runs as well, and in Linux 6.1 one of them writes autoksyms.h and include/ksym/, so it gets a
 # shell that does nothing.
@@ -237,13 +238,16 @@ endef
 endif
 confstamp-object = $(if $(strip $(confstamp-newer) $(confstamp-other)),$(info confstamp-rebuild $(call confstamp-named,$@) \
 	'$(make-cmd)' $(call confstamp-named,$(confstamp-newer))))
-confstamp-linked = $(info confstamp-linked $(call confstamp-named,$@) $(1) $(call confstamp-named,$(2)))
+confstamp-together = $(platdata-hdr) $(u-boot-spl-platdata_c)
+confstamp-linked = $(foreach target,$(if $(filter $(confstamp-together),$@),$(confstamp-together),$@),$(info \
+	confstamp-linked $(call confstamp-named,$(target)) $(1) $(call confstamp-named,$(2))))
 confstamp-parts = $(if $(filter %.o %.a,$^),$(call confstamp-linked,same,$(filter %.o %.a,$^)))
 confstamp-link = $(call confstamp-linked,$(if $(strip $(confstamp-other)),differs,same),$(filter-out $(PHONY) $(2),$^))
 confstamp-visited = $(info confstamp-visited $(call confstamp-named,$@))$(if \
 	$(deps_$@),$(confstamp-object)$(confstamp-parts),$(confstamp-link))
 $(foreach word,if_changed_dep if_changed_rule if_changed if_changed_except,$(eval override $(word) = $$(if $$(filter \
 	$$(PHONY),$$@),,$$(confstamp-visited))@:))
-override cmd = $(if $(confstamp-ours),$(if $(wildcard $@),$(call confstamp-linked,same,$(filter-out $(PHONY),$^))))@:
+override cmd = $(if $(confstamp-dialect),$(if $(filter $(PHONY),$@)$(deps_$@),,$(call confstamp-linked,$(or $(if \
+	$(confstamp-ours),,$(if $(filter FORCE,$^),differs)),$(if $(wildcard $@),same,gone)),$(filter-out $(PHONY),$^))))@:
 autoksyms_recursive: private SHELL := true
 endif

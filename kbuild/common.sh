@@ -76,7 +76,6 @@ directories_only() {
     done
 }
 
-# No hook can do without the program.
 need_program() {
     command -v "$confstamp" > /dev/null || refuse "$confstamp is missing: install it again, or take the hooks out (install-hooks -R)"
 }
@@ -127,7 +126,6 @@ to_targets() {
     sed 's,\.\([^/ ]*\)\.cmd$,\1,' "$@"
 }
 
-# wants_table WORD: is it --by-directory?
 table=no
 wants_table() {
     [ "$1" = --by-directory ] || [ "$1" = --by-folder ] || return 1

@@ -513,7 +513,7 @@ list_recorded() {
     [ -e "$1" ] || : > "$1"
     awk -v tmpdir="$tmpdir" -v tree="$PWD/" '
         FILENAME == ARGV[ARGC - 1] { lines++ }
-        $1 != "record" { if (NR == 1) first = $0 "\n"; next }
+        $1 != "record" { if (NR == 1 && NF) first = $0 "\n"; others++; next }
         !($0 in last) { once++ }
         { text[NR] = $0; last[$0] = NR; path = index($2, tree) == 1 ? substr($2, length(tree) + 1) : $2 }
         !(path in named) { paths[++count] = path }
@@ -524,7 +524,7 @@ list_recorded() {
                 print named[paths[place]]
                 print paths[place] > (tmpdir "/recorded")
             }
-            if (ARGC == 2 && lines <= 3 * once + 100) exit
+            if (ARGC == 2 && lines - others <= 3 * once + 100) exit
             printf "%s", first > (tmpdir "/list")
             for (place = 1; place <= NR; place++) if (last[text[place]] == place) print text[place] > (tmpdir "/list")
             print lines + 1 > (tmpdir "/lines")

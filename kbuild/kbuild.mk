@@ -79,9 +79,9 @@ $(eval cmd = $(value cmd)$$(if $$(filter btf_ko,$$(1)),$$(confstamp-last-line)))
 endif
 
 # An object is also listed as one that was recorded in this tree, or, where it stands elsewhere, in the directory of this external module;
-# of a module, together with the directory as make was given it.
-confstamp-begin = $(if $(confstamp-only-asked),,$(if $(wildcard $(confstamp-records)),$(call \
-	confstamp-write,>> $(confstamp-records),$(strip record $(confstamp-target) $(confstamp-module)))))
+# of a module, together with the directory as make was given it. A full disk may have cut off the line before, so an empty one comes first.
+confstamp-begin = $(if $(confstamp-only-asked),,$(if $(wildcard $(confstamp-records)),$(call confstamp-write,>> \
+	$(confstamp-records),$(confstamp-line-feed)$(strip record $(confstamp-target) $(confstamp-module)))))
 confstamp-command-file = $(@D)/.$(@F).cmd
 confstamp-module = $(if $(confstamp-elsewhere),$(CURDIR),$(KBUILD_EXTMOD))
 confstamp-records = $(if $(confstamp-outside),$(if $(confstamp-elsewhere),.,$(KBUILD_EXTMOD))/.confstamp.records,$(if \

@@ -286,7 +286,7 @@ age_files() {
 mark_due() {
     due=0
     : > "$1/refused"
-    awk -v directory="$1/" '{ print > (directory (/[^!-~]/ ? "refused" : "part." int((NR - 1) / 1000))) }' "$1/targets"
+    awk -v directory="$1/" '{ print > (directory (/[^!-~]/ ? "refused" : "part." int((NR - 1) / 1000))) }' "$1/targets" || return 1
     while [ -n "${2:-}" ] && IFS= read -r object; do
         commands_of "$object"
         [ ! -e "$commands" ] || { rm -f "$commands" && due=$((due + 1)); }

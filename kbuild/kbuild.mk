@@ -80,12 +80,12 @@ endif
 
 # An object is also listed as one that was recorded in this tree, or, where it stands elsewhere, in the directory of this external module;
 # of a module, together with the directory as make was given it. A full disk may have cut off the line before, so an empty one comes first.
-confstamp-begin = $(if $(confstamp-only-asked),,$(if $(wildcard $(confstamp-records)),$(call confstamp-write,>> \
-	$(confstamp-records),$(confstamp-line-feed)$(strip record $(confstamp-target) $(confstamp-module)))))
+confstamp-begin = $(if $(confstamp-only-asked),,$(if $(filter-out $(CONFSTAMP_UNLISTED),$(wildcard $(confstamp-records))),$(call \
+	confstamp-write,>> $(confstamp-records),$(confstamp-line-feed)$(strip record $(confstamp-target) $(confstamp-module)))))
 confstamp-command-file = $(@D)/.$(@F).cmd
 confstamp-module = $(if $(confstamp-elsewhere),$(CURDIR),$(KBUILD_EXTMOD))
-confstamp-records = $(if $(confstamp-outside),$(if $(confstamp-elsewhere),.,$(KBUILD_EXTMOD))/.confstamp.records,$(if \
-	$(confstamp-elsewhere),$(confstamp-elsewhere)/)include/config/confstamp.records)
+confstamp-records = $(if $(confstamp-outside),$(if $(confstamp-elsewhere),.,$(KBUILD_EXTMOD))/.confstamp.records,$(confstamp-of-tree))
+confstamp-of-tree = $(if $(confstamp-elsewhere),$(confstamp-elsewhere)/)include/config/confstamp.records
 confstamp-outside = $(if $(filter /% ../%,$(confstamp-target)),$(filter-out $(realpath $(or $(objtree),.))/%,$(realpath $(@D))/))
 confstamp-target = $(call confstamp-named,$@)
 
@@ -197,11 +197,13 @@ $(if $(confstamp-marked),$(confstamp-its-own)$(if $(confstamp-begun),$(call conf
 $(if $(KBUILD_EXTMOD),,$(confstamp-whole): ; $$(confstamp-ended))
 endef
 
-# The tree's numbers may have gone on since an external module's objects were recorded. So these are asked about as make begins.
+# The tree's numbers may have gone on since an external module's objects were recorded. So these are asked about as make begins. Where
+# the tree is another user's, nothing is added to its list for a directory of it.
 confstamp-mark-due = $(if $(confstamp-only-asked),,$(if $(shell $(if $(confstamp-elsewhere),cd $(objtree) &&) $(CONFSTAMP_KBUILD)/mark \
 	$(confstamp-module) || echo failed),$(error stale objects could not be marked)))
 ifneq ($(KBUILD_EXTMOD),$(CONFSTAMP_MARKED))
 export CONFSTAMP_MARKED := $(KBUILD_EXTMOD)
+export CONFSTAMP_UNLISTED := $(if $(KBUILD_EXTMOD),$(shell [ -w $(confstamp-of-tree) ] || echo $(confstamp-of-tree)))
 $(if $(and $(KBUILD_EXTMOD),$(filter-out clean help modules_install,$(or $(MAKECMDGOALS),modules))),$(confstamp-mark-due))
 endif
 

@@ -301,6 +301,11 @@ mark_due() {
     done
 }
 
+# still_theirs DIRECTORY: in a user's DIRECTORY the command files of `targets`, which root has marked, stay that user's.
+still_theirs() {
+    [ ! -O / ] || [ -O "$1" ] || to_commands "$tmpdir/targets" | each chown "$(stat -c %u:%g "$1")" 2> "$tmpdir/messages" || :
+}
+
 # age_to_come DIRECTORY RECORDED: a product with a future mtime would look newer than what make writes from now on. So what make
 # links or packs is backdated. Such products stand beside what was recorded or above it, and have a command file. BusyBox itself
 # has none. A directory that may not be listed, as one above a module's, is passed over.

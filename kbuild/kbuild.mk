@@ -31,7 +31,8 @@ confstamp-verifies = $(filter-out 0 no,$(CONFSTAMP_VERIFY))
 # would. Of the versions with cmd_T autoksyms.h has to be left out of the dependency file before the record, where it is in use; the
 # hook does that. Where the hook says that fixdep has found another name, with status 3, the recipe ends.
 confstamp-record = $(confstamp-begin)confstamp_fixdep() { $(if $(confstamp-by-hook),,$(confstamp-directly) ||) $(confstamp-hook) \
-	"$$2" "$$3" "$$4" $(confstamp-prefix) || $(if $(confstamp-verifies),{ [ $$? != 3 ] || exit 1; false; } ||) "$$@"; }; \
+	"$$2" "$$3" "$$4" $(confstamp-prefix) && $(confstamp-theirs) || \
+	$(if $(confstamp-verifies),{ [ $$? != 3 ] || exit 1; false; } ||) "$$@"; }; \
 	confstamp_fixdep
 confstamp-by-hook = $(confstamp-verifies)$(confstamp-elsewhere)$(and $(confstamp-prefix),$(CONFIG_TRIM_UNUSED_KSYMS))
 confstamp-hook = $(CONFSTAMP_KBUILD)/fixdep $(confstamp-dialect) $(if $(confstamp-in-place),--in-place) \
@@ -45,7 +46,10 @@ confstamp-early = $(if $(wildcard include/config/auto.conf),,--before-sync)
 
 # The makefiles of U-Boot and BusyBox write the command file aside, and move it to its place behind the call of fixdep; those of Xen don't.
 # The sources are scanned for the project's own patterns. Xen's are those of Linux, U-Boot has more, and Xen's conf is as old as U-Boot's.
-confstamp-and-then = $(if $(confstamp-dialect),$(if $(confstamp-in-place),,&& cat $(confstamp-command-file)),&& exit)
+confstamp-and-then = $(if $(confstamp-dialect),$(if $(confstamp-in-place),,&& cat $(confstamp-command-file)),&& $(confstamp-theirs) && exit)
+
+# Linux's fixdep writes into the command file, so in a user's tree it is that user's also after a make of root. A record is a new file.
+confstamp-theirs = { [ ! -O / ] || [ -O $(@D) ] || chown "$$(stat -c %u:%g $(@D))" $(confstamp-command-file) 2> /dev/null || :; }
 
 # Without auto.conf the conf of Xen and U-Boot touches all symbols. So it becomes an old file where their make would remove it, and their own
 # tools synchronise as well; and before each synchronisation: U-Boot's make takes flags and SOC from one that is no older than .config.

@@ -155,7 +155,7 @@ numbers_here() {
     echo "$(cat "$numbers_name") $(pwd -P)"
 }
 
-# has_other_numbers DIR: was the external module there recorded by other numbers than these? What they say is nothing then.
+# has_other_numbers DIR: do the records of the external module there have other numbers than those of this tree? Then they can't be compared.
 has_other_numbers() {
     case $(cd "$1" && pwd -P)/ in
     "$(pwd -P)"/*) return 1 ;;

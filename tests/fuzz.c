@@ -557,6 +557,18 @@ static void words_of_mark(Command *made)
         put_option(made, "--unrecorded", NULL);
 }
 
+/* At times the compiler ran in a directory below or elsewhere, which may be none; and at times the tree has no name there. */
+static void elsewhere(Command *made)
+{
+    static const char *const directories[] = {"d", "d", "d/e", ".", "/", "x y", ""};
+    static const char *const trees[] = {"..", "../t", "/t", "t$", "."};
+    if (!one_in(3))
+        return;
+    put_option(made, "--in", PICK(directories));
+    if (!one_in(5))
+        put_option(made, "--tree", PICK(trees));
+}
+
 static void words_of_record(Command *made)
 {
     word(made, "record");
@@ -567,6 +579,7 @@ static void words_of_record(Command *made)
         put_option(made, "--cmd", NULL);
     if (one_in(3))
         put_option(made, "--before-sync", NULL);
+    elsewhere(made);
 }
 
 /* A command of a compile, whose words mention symbols at times. */
@@ -636,6 +649,7 @@ static void words_of_depfile(Command *made)
         ask_strictly(made);
     if (one_in(is_build ? 4 : 2))
         put_option(made, "--header", one_in(12) ? PICK(odd_suffixes) : one_in(4) || is_build ? PICK(suffixes_of_build) : PICK(suffixes));
+    elsewhere(made);
 }
 
 /* A repair, by what was kept or without. */

@@ -17,6 +17,12 @@ static enum { LINUX, U_BOOT, BUSYBOX, COREBOOT } dialect;
 /* The end of the path of the header of all symbols, which the command that runs was given; NULL where it is the usual one. */
 static const Bytes *header_suffix;
 
+/* Where the compiler ran that made what is recorded, and the name that the tree has there, as the command that runs was given them. */
+static struct {
+    bool is_named;
+    Bytes directory, tree;
+} elsewhere;
+
 /* Memory and texts */
 
 typedef struct Block {
@@ -1451,10 +1457,27 @@ static Fault check_record(Bytes depfile, Bytes target, Bytes command)
     return is_command(command) ? none : fault("22 BadCommand");
 }
 
+/* A dependency file by the paths that it has here: of a compiler elsewhere a relative one is one of its directory. */
+static Fault load_depfile(const Tree *tree, Bytes path, Bytes *bytes)
+{
+    Text text = {0};
+    Bytes token;
+    Fault found = load(tree, path, bytes);
+    if (refused(found) || !elsewhere.is_named)
+        return found;
+    while (next_token(bytes, &token)) {
+        if (!ends(token, ":") && !starts(token, "/"))
+            add(&text, joined("", elsewhere.directory, "/"));
+        add(&text, joined("", token, "\n"));
+    }
+    *bytes = of_text(&text);
+    return found;
+}
+
 static Fault read_prerequisites(const Tree *tree, Bytes depfile, Prerequisites *list)
 {
     Bytes bytes;
-    Fault found = load(tree, depfile, &bytes);
+    Fault found = load_depfile(tree, depfile, &bytes);
     return refused(found) ? found : read_depfile(bytes, list);
 }
 
@@ -1516,12 +1539,40 @@ static void add_cmd(Text *text, Bytes target)
     add_text(text, "\n");
 }
 
+/* Behind that for a make elsewhere: the record by the name that the object has there. */
+static void add_elsewhere(Text *text, Bytes target)
+{
+    CommandFile file;
+    Bytes directory = joined("", elsewhere.directory, "/");
+    if (refused(read_command(of_text(text), &file)) || target.length < directory.length || memcmp(target.at, directory.at, directory.length) != 0)
+        return;
+    Names names = file.names;
+    Bytes name = {target.at + directory.length, target.length - directory.length};
+    add(text, joined("savedcmd_", name, " = $(savedcmd_"));
+    add(text, joined("", target, ")\n"));
+    add(text, joined("deps_", name, " := \\\n"));
+    for (size_t i = 0; i < names.count; i++) {
+        add(text, joined("    $(wildcard ", elsewhere.tree, "/include/config/"));
+        add(text, joined("", names.names[i], ") \\\n"));
+    }
+    add(text, joined("    $(deps_", target, ")\n\n"));
+    add(text, joined("", name, ": $(deps_"));
+    add(text, joined("", name, ")\n\n"));
+}
+
+static bool is_no_place(void)
+{
+    return elsewhere.is_named && (!is_path(elsewhere.directory) || !is_path(elsewhere.tree));
+}
+
 static Fault record(Tree *tree, RecordOptions options, const Bytes *words, uint64_t *generation, size_t *count)
 {
     Prerequisites list;
     Text text = {0};
     Bytes depfile = words[0], target = words[1], command = words[2];
     Fault found = check_record(depfile, target, command);
+    if (!refused(found) && is_no_place())
+        found = fault("21 BadPath token 0");
     if (!refused(found))
         found = read_prerequisites(tree, depfile, &list);
     if (!refused(found))
@@ -1533,6 +1584,8 @@ static Fault record(Tree *tree, RecordOptions options, const Bytes *words, uint6
     add_text(&text, "#generation %" PRIu64 "\n", *generation);
     if (options.has_cmd)
         add_cmd(&text, target);
+    if (elsewhere.is_named && !options.has_command_names)
+        add_elsewhere(&text, target);
     if (text.length > MAX_BYTES)
         return fault("9 TooLarge");
     if (is_no_file(tree, command_path(target)))
@@ -1822,6 +1875,14 @@ static bool take_option(Bytes *words, size_t *count, const char *option, Bytes *
     return false;
 }
 
+/* Where the compiler ran, by two options. */
+static void take_elsewhere(Bytes *words, size_t *count)
+{
+    elsewhere.tree = bytes_of("");
+    elsewhere.is_named = take_option(words, count, "--in", &elsewhere.directory);
+    take_option(words, count, "--tree", &elsewhere.tree);
+}
+
 static Answer run_fixdep(const Tree *tree, const Bytes *words)
 {
     Prerequisites list;
@@ -1868,8 +1929,12 @@ static Bytes rule_text(Bytes depfile, const Prerequisites *list, const Names *na
     add(&text, token);
     for (size_t i = 0; i < list->count; i++)
         add(&text, joined(" \\\n  ", list->all[i].path, ""));
-    for (size_t i = 0; i < names->count; i++)
-        add(&text, joined(" \\\n  include/config/", names->names[i], ""));
+    for (size_t i = 0; i < names->count; i++) {
+        add_text(&text, " \\\n  ");
+        if (elsewhere.is_named)
+            add(&text, joined("", elsewhere.tree, "/"));
+        add(&text, joined("include/config/", names->names[i], ""));
+    }
     add_text(&text, "\n");
     return of_text(&text);
 }
@@ -2294,7 +2359,7 @@ static Fault check_strictly(const Tree *tree, const Bytes *words, Bytes other, c
     if (!refused(found) && !is_path(words[0]))
         found = fault("21 BadPath token 0");
     if (!refused(found))
-        found = load(tree, words[0], &depfile);
+        found = load_depfile(tree, words[0], &depfile);
     if (!refused(found))
         found = read_depfile(depfile, &list);
     return refused(found) ? found : check_files(tree, depfile, other, words[2]);
@@ -2319,6 +2384,7 @@ static Answer run_depfile(Tree *tree, Bytes *words, size_t count)
             break;
         }
     bool has_header = take_option(words, &count, "--header", &suffix), is_strict = take_option(words, &count, "--strict", &other);
+    take_elsewhere(words, &count);
     if (count != 3)
         return no_command();
     if (has_header && !is_path(suffix))
@@ -2331,7 +2397,7 @@ static Answer run_depfile(Tree *tree, Bytes *words, size_t count)
         found = record(tree, (RecordOptions){.has_command_names = true}, words, &generation, &count);
     if (refused(found))
         return refusal(found);
-    load(tree, words[0], &depfile);
+    load_depfile(tree, words[0], &depfile);
     read_depfile(depfile, &list);
     write_rule(tree, words[0], words[1], depfile, &list);
     return recorded("depfile", words[1], generation, count);
@@ -2988,6 +3054,8 @@ static Answer run_command(Tree *tree, Bytes *words, size_t count)
         .has_cmd = is_record && take_option(words, &count, "--cmd", NULL),
         .is_before_sync = is_record && take_option(words, &count, "--before-sync", NULL),
     };
+    if (is_record)
+        take_elsewhere(words, &count);
     if (is_text(words[0], "sync") && count == 3)
         return run_sync(tree, words + 1, is_written);
     if (is_preview && (count == 3 || count == 4))
@@ -3027,6 +3095,7 @@ Answer run_words(Tree *tree, const Bytes *words, size_t count)
 {
     dialect = LINUX;
     header_suffix = NULL;
+    elsewhere.is_named = false;
     if (count > 2 && is_text(words[0], "--dialect")) {
         dialect = is_text(words[1], "busybox")    ? BUSYBOX
                   : is_text(words[1], "u-boot")   ? U_BOOT

@@ -5,7 +5,7 @@
 
 #include "model.h"
 
-enum { MOST_WORDS = 16 };
+enum { MOST_WORDS = 20 };
 
 /* Ends the sweep: what it needs of the system is refused. */
 void give_up(const char *what);

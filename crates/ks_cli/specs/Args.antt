@@ -8,7 +8,8 @@ use Rattle.ks_engine.specs.declared.backdating.BackdateScope.TheVariants as back
 use Rattle.ks_engine.specs.declared.planning.ConfigForm.{ConfigForm}
 use Rattle.ks_engine.specs.declared.planning.ConfigForm.TheVariants as form
 use Rattle.ks_requests.specs.declared.request.ConfigPaths.{ConfigPaths}
-use Rattle.ks_engine.specs.declared.conventions.RecordOptions.{RecordOptions}
+use Rattle.ks_requests.specs.declared.request.ElsewherePaths.{ElsewherePaths}
+use Rattle.ks_requests.specs.declared.request.RecordWords.{RecordWords}
 use Rattle.ks_requests.specs.declared.request.DepfileAfter.{DepfileAfter}
 use Rattle.ks_requests.specs.declared.request.DepfileAfter.TheVariants as depfile
 use Rattle.ks_requests.specs.declared.request.KeptPaths.{KeptPaths}
@@ -104,9 +105,15 @@ asks_both rows = is_set (codes "stamps") rows && is_set (codes "written") rows
 abbrev pub depfile_after : List Row → DepfileAfter
 depfile_after rows = if is_set (codes "remove-depfile") rows then depfile.Removed else depfile.Kept
 
--- what `record` is to write beside the record
-abbrev pub options_of : List Row → RecordOptions
-options_of rows = record { adds_own_lines = is_set (codes "cmd") rows; before_sync = is_set (codes "before-sync") rows }
+-- where the compiler ran; the tree's name that isn't there is a path of no bytes, which is none
+abbrev pub IsElsewhere : List Row → Option ElsewherePaths → Type 0
+IsElsewhere rows None = first_of (codes "DIR") rows ≡ None
+IsElsewhere rows (Some e) = (first_of (codes "DIR") rows ≡ Some (string_bytes e.directory)) × (string_bytes e.tree ≡ arg_at (codes "TREE") rows)
+
+-- how `record` is asked for
+abbrev pub AreRecordWords : List Row → RecordWords → Type 0
+AreRecordWords rows words =
+    (words.adds_own_lines ≡ is_set (codes "cmd") rows) × (words.before_sync ≡ is_set (codes "before-sync") rows) × IsElsewhere rows words.elsewhere
 
 -- which stale objects `backdate` and `mark` are about
 abbrev pub scope_of : List Row → BackdateScope
@@ -155,10 +162,10 @@ IsRequestOf command rows (request.Fixdep d t c) = (command ≡ codes "fixdep")
     × (string_bytes c ≡ arg_at (codes "COMMAND") rows)
 IsRequestOf command rows (request.Record d t c after options) = (command ≡ codes "record")
     × (string_bytes d ≡ arg_at (codes "DEPFILE") rows) × (string_bytes t ≡ arg_at (codes "TARGET") rows)
-    × (string_bytes c ≡ arg_at (codes "COMMAND") rows) × (after ≡ depfile_after rows) × (options ≡ options_of rows)
-IsRequestOf command rows (request.Depfile end strict d t c) = (command ≡ codes "depfile")
+    × (string_bytes c ≡ arg_at (codes "COMMAND") rows) × (after ≡ depfile_after rows) × AreRecordWords rows options
+IsRequestOf command rows (request.Depfile end strict elsewhere d t c) = (command ≡ codes "depfile")
     × (option_map (λ path. string_bytes path) end ≡ first_of (codes "SUFFIX") rows)
-    × AreStrict rows strict × (string_bytes d ≡ arg_at (codes "DEPFILE") rows)
+    × AreStrict rows strict × IsElsewhere rows elsewhere × (string_bytes d ≡ arg_at (codes "DEPFILE") rows)
     × (string_bytes t ≡ arg_at (codes "TARGET") rows) × (string_bytes c ≡ arg_at (codes "COMMAND") rows)
 IsRequestOf command rows (request.Repair s t k) = (command ≡ codes "repair") × (string_bytes s ≡ arg_at (codes "STAMPS") rows)
     × (string_bytes t ≡ arg_at (codes "TARGETS") rows) × AreKept rows k

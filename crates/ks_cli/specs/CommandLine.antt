@@ -1,5 +1,5 @@
 -- The command line as `clap` sees it. The names are this project's.
-use Rattle.std.specs.Prelude.{List, [], ◌∷◌, codes, true, fold, map, Option, Some, None}
+use Rattle.std.specs.Prelude.{List, [], ◌∷◌, codes, true, fold, map, Some}
 use Rattle.clap.specs.Words.{App, Rule, Text, new_app, new_rule, with_rule, with_subcommand}
 use Rattle.clap.specs.Simple.{on_top}
 use Rattle.clap.specs.Lexer.{usize_max}
@@ -85,10 +85,10 @@ writing_apps =
     ∷ once (codes "DOTCONFIG") ∷ []))
     ∷ taking (codes "status") (flag (codes "written") ∷ at_most_once (codes "KCONFIG") ∷ at_most_once (codes "DOTCONFIG") ∷ [])
     ∷ taking (codes "fixdep") (once (codes "DEPFILE") ∷ once (codes "TARGET") ∷ once (codes "COMMAND") ∷ [])
-    ∷ needing_one (taking (codes "record") (flag (codes "remove-depfile") ∷ flag (codes "cmd") ∷ flag (codes "before-sync") ∷ once (codes "DEPFILE") ∷ once (codes "TARGET")
-    ∷ once (codes "COMMAND") ∷ []))
+    ∷ needing_one (taking (codes "record") (flag (codes "remove-depfile") ∷ flag (codes "cmd") ∷ flag (codes "before-sync") ∷ following (codes "in") (codes "DIR")
+    ∷ following (codes "tree") (codes "TREE") ∷ once (codes "DEPFILE") ∷ once (codes "TARGET") ∷ once (codes "COMMAND") ∷ []))
     ∷ needing_one (taking (codes "depfile") (following (codes "header") (codes "SUFFIX") ∷ following (codes "strict") (codes "PATH")
-    ∷ any_following (codes "tools") (codes "TOOL") ∷ once (codes "DEPFILE") ∷ once (codes "TARGET") ∷ once (codes "COMMAND") ∷ []))
+    ∷ any_following (codes "tools") (codes "TOOL") ∷ following (codes "in") (codes "DIR") ∷ following (codes "tree") (codes "TREE") ∷ once (codes "DEPFILE") ∷ once (codes "TARGET") ∷ once (codes "COMMAND") ∷ []))
     ∷ needing_one (taking (codes "repair") (once_after (codes "stamps") (codes "STAMPS") ∷ once_after (codes "targets") (codes "TARGETS")
     ∷ at_most_once (codes "AUTO") ∷ at_most_once (codes "HEADER") ∷ []))
     ∷ [])

@@ -5,16 +5,16 @@ ghost use Rattle.clap.specs.Walk.{texts};
 ghost use Rattle.ks_requests.specs.Requests.{IsBatchOf, IsPreviewOf};
 ghost use Rattle.ks_cli.specs.CommandLine.{command_line_app};
 ghost use Rattle.ks_cli.specs.Meaning.{IsBothReported, IsPageNamed, IsPageReported, IsReason, IsTakenAs, Makes};
-ghost use Rattle.ks_cli.specs.Args.{AreConfig, AreKept, AreNamedConfig, AreStrict, AreTargets, IsPlainArg, IsRequestOf, HasText, IsReported, IsWantOfMemory, asks_both, is_no_memory, is_set, report_style_of, arg_at, args_at, form_of, format_of, scope_of, IsNumberOf};
+ghost use Rattle.ks_cli.specs.Args.{AreConfig, AreKept, AreNamedConfig, AreStrict, IsElsewhere, AreTargets, IsPlainArg, IsRequestOf, HasText, IsReported, IsWantOfMemory, asks_both, is_no_memory, is_set, report_style_of, arg_at, args_at, form_of, format_of, scope_of, IsNumberOf};
 
 use crate::command_line::command_line;
 use crate::help_text::HelpText;
 use clap::ArgMatches;
 use clap::error::ErrorKind;
-use ks_engine::{BackdateScope, ConfigForm, RecordOptions};
+use ks_engine::{BackdateScope, ConfigForm};
 use ks_requests::{
-    ConfigPaths, DepfileAfter, KeptPaths, OutputFormat, ReportStyle, Request, Stamps, StrictPaths,
-    Targets,
+    ConfigPaths, DepfileAfter, ElsewherePaths, KeptPaths, OutputFormat, RecordWords, ReportStyle,
+    Request, Stamps, StrictPaths, Targets,
 };
 use std::alloc::{AllocError, Global};
 use thiserror::Error;
@@ -233,6 +233,19 @@ fn fixdep_request(alloc: Global, matches: &ArgMatches<'_>) -> Result<Request, Al
     })
 }
 
+/// Where the compiler ran, where it is named. Without the other word the tree has the path of no bytes, which is none.
+fn elsewhere(alloc: Global, matches: &ArgMatches<'_>) -> Result<Option<ElsewherePaths>, AllocError>
+    ensures { IfOk result (IsElsewhere (rows_of (found_of matches.now))) }
+{
+    match optional_arg(alloc, matches, "DIR")? {
+        Some(directory) => Ok(Some(ElsewherePaths {
+            directory,
+            tree: arg(alloc, matches, "TREE")?,
+        })),
+        None => Ok(None),
+    }
+}
+
 fn record_request(alloc: Global, matches: &ArgMatches<'_>) -> Result<Request, AllocError>
     ensures { IfOk result (IsRequestOf (codes "record") (rows_of (found_of matches.now))) }
 {
@@ -246,9 +259,10 @@ fn record_request(alloc: Global, matches: &ArgMatches<'_>) -> Result<Request, Al
             DepfileAfter::Removed,
             DepfileAfter::Kept,
         ),
-        options: RecordOptions {
+        options: RecordWords {
             adds_own_lines: is_set(matches, "cmd"),
             before_sync: is_set(matches, "before-sync"),
+            elsewhere: elsewhere(alloc, matches)?,
         },
     })
 }
@@ -272,6 +286,7 @@ fn depfile_request(alloc: Global, matches: &ArgMatches<'_>) -> Result<Request, A
     Ok(Request::Depfile {
         header: optional_arg(alloc, matches, "SUFFIX")?,
         strict: strict(alloc, matches)?,
+        elsewhere: elsewhere(alloc, matches)?,
         depfile: arg(alloc, matches, "DEPFILE")?,
         target: arg(alloc, matches, "TARGET")?,
         command: arg(alloc, matches, "COMMAND")?,

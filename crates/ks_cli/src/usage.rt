@@ -122,6 +122,18 @@ const FROM: ArgUsage = ArgUsage {
     help: "A file with further objects, one a line; they come after the others, and empty lines are skipped",
 };
 
+const IN: ArgUsage = ArgUsage {
+    name: "DIR",
+    num_args: NumArgs::Following("in"),
+    help: "Where the compiler ran, from the root: what it named is below DIR",
+};
+
+const TREE: ArgUsage = ArgUsage {
+    name: "TREE",
+    num_args: NumArgs::Following("tree"),
+    help: "With --in: this directory, by the name that the build has for it there; the stamps are named so",
+};
+
 const JSON: ArgUsage = ArgUsage {
     name: "json",
     num_args: NumArgs::Flag,
@@ -270,12 +282,14 @@ Example: confstamp fixdep x.d x.o 'cc -c x.c'",
                 num_args: NumArgs::Flag,
                 help: "Where there is no auto.conf yet: record the object under generation 0",
             },
+            IN,
+            TREE,
             DEPFILE,
             TARGET,
             COMMAND,
         ],
         override_usage: Some(
-            "confstamp record [--remove-depfile] [--cmd] [--before-sync] <DEPFILE> <TARGET> <COMMAND>",
+            "confstamp record [--remove-depfile] [--cmd] [--before-sync] [--in DIR --tree TREE] <DEPFILE> <TARGET> <COMMAND>",
         ),
         needs_args: true,
         after_help: "\
@@ -302,12 +316,14 @@ Example: confstamp record x.d x.o 'cc -c x.c'",
                 num_args: NumArgs::AnyAfter("tools"),
                 help: "With --strict: the compiler and what runs it, each of which must be a program and no script",
             },
+            IN,
+            TREE,
             DEPFILE,
             TARGET,
             COMMAND,
         ],
         override_usage: Some(
-            "confstamp depfile [--header SUFFIX] [--strict PATH [--tools TOOL...]] [--] <DEPFILE> <TARGET> <COMMAND>",
+            "confstamp depfile [--header SUFFIX] [--strict PATH [--tools TOOL...]] [--in DIR --tree TREE] [--] <DEPFILE> <TARGET> <COMMAND>",
         ),
         needs_args: true,
         after_help: "\

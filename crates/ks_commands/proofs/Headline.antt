@@ -33,9 +33,9 @@ none_before_recorded : (dialect : Dialect) (options : RecordOptions) (d t c : Li
     → FollowsRecordUnder (usual_with options dialect) d t c answer old new → NoneBroken new.history → NoneBroken old.history
 none_before_recorded dialect options d t c answer old new is none = (goes_on dialect old (Record options d t c) (Recorded answer) new is).0 none
 
-none_before_depfile : (dialect : Dialect) (header : Header) (d t c : List ℕ) (answer : Result RecordAnswer EngineError) (old new : TreeState)
-    → FollowsDepfile (ruled_by header dialect) d t c answer old new → NoneBroken new.history → NoneBroken old.history
-none_before_depfile dialect header d t c answer old new is none = (goes_on dialect old (Depfile header d t c) (Recorded answer) new is).0 none
+none_before_depfile : (dialect : Dialect) (header : Header) (options : RecordOptions) (d t c : List ℕ) (answer : Result RecordAnswer EngineError) (old new : TreeState)
+    → FollowsDepfile (ruled_by header options dialect) d t c answer old new → NoneBroken new.history → NoneBroken old.history
+none_before_depfile dialect header options d t c answer old new is none = (goes_on dialect old (Depfile header options d t c) (Recorded answer) new is).0 none
 
 pub none_before_program : (dialect : Dialect) (r : Request) (ended : Ending) (old new : TreeState) → Continues dialect r ended old new → NoneBroken new.history → NoneBroken old.history
 none_before_program dialect (request.Batch p) ended old new (a, b, is) none = search (rules, none_first)

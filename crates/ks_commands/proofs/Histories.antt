@@ -6,6 +6,7 @@ use Rattle.ks_requests.specs.declared.request.Stamps.TheVariants as stamps
 use Rattle.ks_engine.specs.Sources.{FromConf, FromKconfig, Source}
 use Rattle.ks_requests.specs.Inputs.{source_at}
 use Rattle.ks_requests.specs.declared.request.ConfigPaths.{ConfigPaths}
+use Rattle.ks_requests.specs.declared.request.ElsewherePaths.{ElsewherePaths}
 use Rattle.ks_requests.specs.declared.request.StrictPaths.{StrictPaths}
 use Rattle.ks_engine.proofs.FileRunning.{goes_on, step_goes_on}
 
@@ -45,24 +46,24 @@ sync_goes_on dialect which c ended old new h shows (inr (t, there, answer, is, r
     let next = stamps_follow dialect which old new h (source_at dialect c.form t) answer shows is in
     (next.0, inr (t, there, answer, next.1, reported), next.2)
 
-rule_goes_on : (dialect : Dialect) (end : Option (List ℕ)) (strict : Option StrictPaths) (d t c : List ℕ) (ended : Ending) (old new : FileState) (h : History) → Shows old.files h
-    → EndsDepfile old.files (by_files dialect ⊤ old new) end strict d t c ended
-    → (next : History) × EndsDepfile old.files (by_histories dialect (at old.files old.failures h) (at new.files new.failures next)) end strict d t c ended × Shows new.files next
-rule_goes_on dialect end strict d t c ended old new h shows (inl (same, stopped)) = (h, inl ((same, refl), stopped), stays old new h shows same)
-rule_goes_on dialect end strict d t c ended old new h shows (inr (header, named, allowed, answer, is, reported)) =
-    let next = step_goes_on dialect old (Depfile header d t c) (Recorded answer) new h shows is in
-    (next.0, inr (header, named, allowed, answer, next.1, reported), next.2)
+rule_goes_on : (dialect : Dialect) (end : Option (List ℕ)) (strict : Option StrictPaths) (elsewhere : Option ElsewherePaths) (d t c : List ℕ) (ended : Ending) (old new : FileState) (h : History) → Shows old.files h
+    → EndsDepfile old.files (by_files dialect ⊤ old new) end strict elsewhere d t c ended
+    → (next : History) × EndsDepfile old.files (by_histories dialect (at old.files old.failures h) (at new.files new.failures next)) end strict elsewhere d t c ended × Shows new.files next
+rule_goes_on dialect end strict elsewhere d t c ended old new h shows (inl (same, stopped)) = (h, inl ((same, refl), stopped), stays old new h shows same)
+rule_goes_on dialect end strict elsewhere d t c ended old new h shows (inr (header, named, options, are, allowed, answer, is, reported)) =
+    let next = step_goes_on dialect old (Depfile header options d t c) (Recorded answer) new h shows is in
+    (next.0, inr (header, named, options, are, allowed, answer, next.1, reported), next.2)
 
 pub requests_go_on : RequestsGoOn
 requests_go_on dialect (request.Sync c which) ended old new h told shows ends =
     let next = sync_goes_on dialect which c ended old new h shows (ends tt) in
     (next.0, (old.backdated, new.backdated, λ t. next.1), next.2)
-requests_go_on dialect (request.Record d t c after options) ended old new h told shows ends =
+requests_go_on dialect (request.Record d t c after words) ended old new h told shows ends =
     let is = ends tt in
-    let next = step_goes_on dialect old (Record options (string_bytes d) (string_bytes t) (string_bytes c)) (Recorded is.0) new h shows is.1 in
-    (next.0, (old.backdated, new.backdated, λ u. (is.0, next.1, is.2)), next.2)
-requests_go_on dialect (request.Depfile end strict d t c) ended old new h told shows ends =
-    let next = rule_goes_on dialect (option_map (λ p. string_bytes p) end) strict (string_bytes d) (string_bytes t) (string_bytes c) ended old new h shows (ends tt) in
+    let next = step_goes_on dialect old (Record is.0 (string_bytes d) (string_bytes t) (string_bytes c)) (Recorded is.2) new h shows is.3 in
+    (next.0, (old.backdated, new.backdated, λ u. (is.0, is.1, is.2, next.1, is.4)), next.2)
+requests_go_on dialect (request.Depfile end strict elsewhere d t c) ended old new h told shows ends =
+    let next = rule_goes_on dialect (option_map (λ p. string_bytes p) end) strict elsewhere (string_bytes d) (string_bytes t) (string_bytes c) ended old new h shows (ends tt) in
     (next.0, (old.backdated, new.backdated, λ u. next.1), next.2)
 requests_go_on dialect (request.Batch script) ended old new h told shows (inl (r, why, is)) =
     (h, (old.backdated, new.backdated, inl (r, λ t. (((why t).0, refl), (why t).1), is)), stays old new h shows (why tt).0)

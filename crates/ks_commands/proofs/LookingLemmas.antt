@@ -28,6 +28,8 @@ use Rattle.ks_fixdep.specs.declared.dependency_file.Header.TheVariants.{At}
 use Rattle.ks_tree.specs.Paths.{auto_path}
 use Rattle.ks_engine.specs.Recording.{there}
 use Rattle.ks_engine.specs.LastSync.{old_auto}
+use Rattle.ks_engine.specs.Places.{placed_by}
+use Rattle.ks_engine.specs.declared.conventions.RecordOptions.{RecordOptions}
 use Rattle.ks_engine.specs.Refusals.{IsAborted, of_dep}
 use Rattle.ks_engine.specs.declared.error.EngineError.{EngineError}
 use Rattle.ks_hidden.specs.Arguments.{unknown_argument}
@@ -193,27 +195,27 @@ unread_of look files listed plain sourced f same (name, one) e (inr is) =
 
 -- ---- what can't be read
 
-pub auto_unread : (dialect : Dialect) (header : Header) (alias : List ℕ) (files : Files) (depfile command was : List ℕ) (listed : List (List ℕ × Role))
-    (e : EngineError) → content files depfile ≡ Some was → AreListed was listed
-    → IsAborted e ⊎ (old_auto (content files auto_path) ≡ Err e) → IsAborted e ⊎ IsUnreadFile dialect header alias files depfile command e
-auto_unread dialect header alias files depfile command was listed e at are (inl aborted) = inl aborted
-auto_unread dialect header alias files depfile command was listed e at are (inr is) = inr (inr (inl (was, at, inr (listed, are, is))))
+pub auto_unread : (dialect : Dialect) (header : Header) (options : RecordOptions) (alias : List ℕ) (files : Files) (depfile command was : List ℕ) (listed : List (List ℕ × Role))
+    (e : EngineError) → content files depfile ≡ Some was → AreListed (placed_by options was) listed
+    → IsAborted e ⊎ (old_auto (content files auto_path) ≡ Err e) → IsAborted e ⊎ IsUnreadFile dialect header options alias files depfile command e
+auto_unread dialect header options alias files depfile command was listed e at are (inl aborted) = inl aborted
+auto_unread dialect header options alias files depfile command was listed e at are (inr is) = inr (inr (inl (was, at, inr (listed, are, is))))
 
-pub file_unread : (dialect : Dialect) (header : Header) (alias : List ℕ) (files : Files) (depfile command : List ℕ) (read : FirstRead files depfile)
+pub file_unread : (dialect : Dialect) (header : Header) (options : RecordOptions) (alias : List ℕ) (files : Files) (depfile command : List ℕ) (read : FirstRead options files depfile)
     (e : EngineError)
-    → IsAborted e ⊎ IsUnreadListed (look_by dialect header alias command read) files read.listed e → IsAborted e ⊎ IsUnreadFile dialect header alias files depfile command e
-file_unread dialect header alias files depfile command read e (inl aborted) = inl aborted
-file_unread dialect header alias files depfile command read e (inr is) = inr (inr (inr (read, is)))
+    → IsAborted e ⊎ IsUnreadListed (look_by dialect header alias command read) files read.listed e → IsAborted e ⊎ IsUnreadFile dialect header options alias files depfile command e
+file_unread dialect header options alias files depfile command read e (inl aborted) = inl aborted
+file_unread dialect header options alias files depfile command read e (inr is) = inr (inr (inr (read, is)))
 
-pub bad_tool : (dialect : Dialect) (header : Header) (strict : StrictPaths) (files : Files) (depfile command : List ℕ) (e : EngineError)
-    → unknown_argument command ≡ None → IsAborted e ⊎ IsBadTool files (tools_of strict) e → IsAborted e ⊎ IsUnread dialect header strict files depfile command e
-bad_tool dialect header strict files depfile command e none (inl aborted) = inl aborted
-bad_tool dialect header strict files depfile command e none (inr is) = inr (none, inl is)
+pub bad_tool : (dialect : Dialect) (header : Header) (options : RecordOptions) (strict : StrictPaths) (files : Files) (depfile command : List ℕ) (e : EngineError)
+    → unknown_argument command ≡ None → IsAborted e ⊎ IsBadTool files (tools_of strict) e → IsAborted e ⊎ IsUnread dialect header options strict files depfile command e
+bad_tool dialect header options strict files depfile command e none (inl aborted) = inl aborted
+bad_tool dialect header options strict files depfile command e none (inr is) = inr (none, inl is)
 
-pub unread_behind : (dialect : Dialect) (header : Header) (strict : StrictPaths) (files now : Files) (alias depfile command : List ℕ) (e : EngineError)
+pub unread_behind : (dialect : Dialect) (header : Header) (options : RecordOptions) (strict : StrictPaths) (files now : Files) (alias depfile command : List ℕ) (e : EngineError)
     → unknown_argument command ≡ None → ArePrograms files (tools_of strict) → now ≡ files → alias ≡ string_bytes strict.alias
-    → IsAborted e ⊎ IsUnreadFile dialect header alias now depfile command e → IsAborted e ⊎ IsUnread dialect header strict files depfile command e
-unread_behind dialect header strict files now alias depfile command e none are same spelled (inl aborted) = inl aborted
-unread_behind dialect header strict files now alias depfile command e none are same spelled (inr is) =
-    let spelled_so = subst (λ a. IsUnreadFile dialect header a now depfile command e) spelled is in
-    inr (none, inr (are, subst (λ f. IsUnreadFile dialect header (string_bytes strict.alias) f depfile command e) same spelled_so))
+    → IsAborted e ⊎ IsUnreadFile dialect header options alias now depfile command e → IsAborted e ⊎ IsUnread dialect header options strict files depfile command e
+unread_behind dialect header options strict files now alias depfile command e none are same spelled (inl aborted) = inl aborted
+unread_behind dialect header options strict files now alias depfile command e none are same spelled (inr is) =
+    let spelled_so = subst (λ a. IsUnreadFile dialect header options a now depfile command e) spelled is in
+    inr (none, inr (are, subst (λ f. IsUnreadFile dialect header options (string_bytes strict.alias) f depfile command e) same spelled_so))

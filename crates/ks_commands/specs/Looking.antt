@@ -22,6 +22,8 @@ use Rattle.ks_fixdep.specs.declared.dependency_file.Role.{Role}
 use Rattle.ks_tree.specs.Files.{Files, content}
 use Rattle.ks_tree.specs.Paths.{auto_path}
 use Rattle.ks_engine.specs.LastSync.{OldAuto, old_auto}
+use Rattle.ks_engine.specs.Places.{placed_by}
+use Rattle.ks_engine.specs.declared.conventions.RecordOptions.{RecordOptions}
 use Rattle.ks_engine.specs.Refusals.{IsAborted, of_dep}
 use Rattle.ks_engine.specs.declared.error.EngineError.{EngineError}
 use Rattle.ks_commands.specs.declared.looking.Looking.{Looking}
@@ -268,16 +270,16 @@ tools_of strict = map (λ tool. string_bytes tool) strict.tools.items
 -- ---- a compile
 
 -- what is read first: the dependency file and auto.conf
-pub record FirstRead (files : Files) (depfile : List ℕ) : Type 0 where
+pub record FirstRead (options : RecordOptions) (files : Files) (depfile : List ℕ) : Type 0 where
   pub was : List ℕ
   pub was_there : content files depfile ≡ Some was
   pub listed : List (List ℕ × Role)
-  pub are_listed : AreListed was listed
+  pub are_listed : AreListed (placed_by options was) listed
   pub auto : OldAuto
   pub auto_is : old_auto (content files auto_path) ≡ Ok auto
 
 -- how the files are looked at then
-abbrev pub look_by : Dialect → Header → List ℕ → List ℕ → {files : Files} {depfile : List ℕ} → FirstRead files depfile → Look
+abbrev pub look_by : Dialect → Header → List ℕ → List ℕ → {options : RecordOptions} {files : Files} {depfile : List ℕ} → FirstRead options files depfile → Look
 look_by dialect header alias command r = record {
   dialect = dialect;
   header = header;
@@ -288,43 +290,43 @@ look_by dialect header alias command r = record {
 }
 
 -- The first reads gave the dependency file and auto.conf, and by these this was found of the files.
-abbrev pub AreFilesLooked : Dialect → Header → List ℕ → Files → List ℕ → List ℕ → Option Hidden → Type 0
-AreFilesLooked dialect header alias files depfile command found =
-    (r : FirstRead files depfile) × IsFound (look_by dialect header alias command r) files r.listed found
+abbrev pub AreFilesLooked : Dialect → Header → RecordOptions → List ℕ → Files → List ℕ → List ℕ → Option Hidden → Type 0
+AreFilesLooked dialect header options alias files depfile command found =
+    (r : FirstRead options files depfile) × IsFound (look_by dialect header alias command r) files r.listed found
 
 -- What was found of an object: an argument that isn't known, a tool that is no program, or by its files.
-abbrev pub IsLooked : Dialect → Header → StrictPaths → Files → List ℕ → List ℕ → Option Hidden → Type 0
-IsLooked dialect header strict files depfile command found =
+abbrev pub IsLooked : Dialect → Header → RecordOptions → StrictPaths → Files → List ℕ → List ℕ → Option Hidden → Type 0
+IsLooked dialect header options strict files depfile command found =
     ((word : ℕ) × (unknown_argument command ≡ Some word) × (found ≡ Some (hidden.Argument word)))
     ⊎ ((unknown_argument command ≡ None)
     × (((h : Hidden) × IsToolCause files (tools_of strict) h × (found ≡ Some h))
-    ⊎ (ArePrograms files (tools_of strict) × AreFilesLooked dialect header (string_bytes strict.alias) files depfile command found)))
+    ⊎ (ArePrograms files (tools_of strict) × AreFilesLooked dialect header options (string_bytes strict.alias) files depfile command found)))
 
 -- The first of what has to be read is refused, or can't be: the dependency file, auto.conf, or one of the files.
-abbrev pub IsUnreadFile : Dialect → Header → List ℕ → Files → List ℕ → List ℕ → EngineError → Type 0
-IsUnreadFile dialect header alias files depfile command e =
+abbrev pub IsUnreadFile : Dialect → Header → RecordOptions → List ℕ → Files → List ℕ → List ℕ → EngineError → Type 0
+IsUnreadFile dialect header options alias files depfile command e =
     (given files depfile ≡ Err e)
     ⊎ (((was : List ℕ) × (content files depfile ≡ Some was)
-    × (IsListRefused was e ⊎ ((listed : List (List ℕ × Role)) × AreListed was listed × (old_auto (content files auto_path) ≡ Err e))))
-    ⊎ ((r : FirstRead files depfile) × IsUnreadListed (look_by dialect header alias command r) files r.listed e))
+    × (IsListRefused (placed_by options was) e ⊎ ((listed : List (List ℕ × Role)) × AreListed (placed_by options was) listed × (old_auto (content files auto_path) ≡ Err e))))
+    ⊎ ((r : FirstRead options files depfile) × IsUnreadListed (look_by dialect header alias command r) files r.listed e))
 
 -- Each argument is known, and a tool is no path, or each is a program and this is so.
-abbrev pub IsUnread : Dialect → Header → StrictPaths → Files → List ℕ → List ℕ → EngineError → Type 0
-IsUnread dialect header strict files depfile command e =
+abbrev pub IsUnread : Dialect → Header → RecordOptions → StrictPaths → Files → List ℕ → List ℕ → EngineError → Type 0
+IsUnread dialect header options strict files depfile command e =
     (unknown_argument command ≡ None)
     × (IsBadTool files (tools_of strict) e
-    ⊎ (ArePrograms files (tools_of strict) × IsUnreadFile dialect header (string_bytes strict.alias) files depfile command e))
+    ⊎ (ArePrograms files (tools_of strict) × IsUnreadFile dialect header options (string_bytes strict.alias) files depfile command e))
 
 -- ---- before a record
 
 -- Where it is asked for, nothing but names can matter.
-abbrev pub AllowsRecord : Files → Dialect → Header → Option StrictPaths → List ℕ → List ℕ → Type 0
-AllowsRecord files dialect header None depfile command = ⊤
-AllowsRecord files dialect header (Some strict) depfile command = IsLooked dialect header strict files depfile command None
+abbrev pub AllowsRecord : Files → Dialect → Header → RecordOptions → Option StrictPaths → List ℕ → List ℕ → Type 0
+AllowsRecord files dialect header options None depfile command = ⊤
+AllowsRecord files dialect header options (Some strict) depfile command = IsLooked dialect header options strict files depfile command None
 
 -- or it is refused for what may matter, or what can't be looked at
-abbrev pub RefusesRecord : Files → Dialect → Header → Option StrictPaths → List ℕ → List ℕ → Ending → Type 0
-RefusesRecord files dialect header None depfile command ended = ⊥
-RefusesRecord files dialect header (Some strict) depfile command ended =
-    ((h : Hidden) × IsLooked dialect header strict files depfile command (Some h) × (ended ≡ Err (OfHidden h)))
-    ⊎ ((e : EngineError) × (IsAborted e ⊎ IsUnread dialect header strict files depfile command e) × (ended ≡ Err (Engine e)))
+abbrev pub RefusesRecord : Files → Dialect → Header → RecordOptions → Option StrictPaths → List ℕ → List ℕ → Ending → Type 0
+RefusesRecord files dialect header options None depfile command ended = ⊥
+RefusesRecord files dialect header options (Some strict) depfile command ended =
+    ((h : Hidden) × IsLooked dialect header options strict files depfile command (Some h) × (ended ≡ Err (OfHidden h)))
+    ⊎ ((e : EngineError) × (IsAborted e ⊎ IsUnread dialect header options strict files depfile command e) × (ended ≡ Err (Engine e)))

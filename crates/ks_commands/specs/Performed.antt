@@ -34,6 +34,8 @@ use Rattle.ks_requests.specs.declared.refusal.Refusal.{Refusal}
 use Rattle.ks_requests.specs.declared.refusal.Refusal.TheVariants.{Engine}
 use Rattle.ks_requests.specs.declared.request.ConfigPaths.{ConfigPaths}
 use Rattle.ks_requests.specs.declared.request.KeptPaths.{KeptPaths}
+use Rattle.ks_requests.specs.declared.request.ElsewherePaths.{ElsewherePaths}
+use Rattle.ks_requests.specs.declared.request.RecordWords.{RecordWords}
 use Rattle.ks_requests.specs.declared.request.StrictPaths.{StrictPaths}
 use Rattle.ks_requests.specs.declared.request.OutputFormat.{OutputFormat}
 use Rattle.ks_requests.specs.declared.request.OutputFormat.TheVariants.{Text}
@@ -51,7 +53,7 @@ use Rattle.ks_requests.specs.Requests.{IsNoQuery, IsOneStep}
 use Rattle.ks_requests.specs.Statuses.{build_status, reply_status, status_unless_refused, worst}
 use Rattle.ks_requests.specs.Symbols.{symbols_of}
 use Rattle.ks_requests.specs.Targets.{targets_at}
-use Rattle.ks_commands.specs.Depfiles.{IsHeaderOf, IsNoHeader}
+use Rattle.ks_commands.specs.Depfiles.{AreOptions, AreRuleOptions, IsHeaderOf, IsNoHeader}
 use Rattle.ks_commands.specs.Differences.{IsDiff, lines_asked, unknown_of}
 use Rattle.ks_commands.specs.Fixdep.{command_file_at}
 use Rattle.ks_commands.specs.Looking.{AllowsRecord, RefusesRecord}
@@ -72,7 +74,7 @@ pub record Effects : Type 1 where
   pub same : Type 0
   pub sync : Stamps → Source → Result Report EngineError → Type 0
   pub recording : RecordOptions → (depfile target command : List ℕ) → Result RecordAnswer EngineError → Type 0
-  pub ruling : (header : Header) (depfile target command : List ℕ) → Result RecordAnswer EngineError → Type 0
+  pub ruling : Header → RecordOptions → (depfile target command : List ℕ) → Result RecordAnswer EngineError → Type 0
   pub repair : RepairInputs → Result Repaired EngineError → Type 0
   pub mark : BackdateScope → List (List ℕ) → Result ℕ EngineError → Type 0
   pub stale : (target : List ℕ) → Result Verdict EngineError → Type 0
@@ -89,20 +91,23 @@ EndsSync files effects stamps c ended =
     × (answer : Result Report EngineError) × effects.sync stamps (source_at effects.dialect c.form t) answer × Answered report_lines answer ended)
 
 -- The engine looks at the arguments of a record itself.
-abbrev pub EndsRecord : Effects → RecordOptions → List ℕ → List ℕ → List ℕ → Ending → Type 0
-EndsRecord effects options d t c ended = (answer : Result RecordAnswer EngineError) × effects.recording options d t c answer × Answered (recorded_line t) answer ended
+abbrev pub EndsRecord : Effects → RecordWords → List ℕ → List ℕ → List ℕ → Ending → Type 0
+EndsRecord effects words d t c ended = (options : RecordOptions) × AreOptions words options
+    × (answer : Result RecordAnswer EngineError) × effects.recording options d t c answer × Answered (recorded_line t) answer ended
 
 -- It is refused for the argument that names the header, or for what may matter beside names; or it ends as the engine answers.
-abbrev pub StopsDepfile : Files → Dialect → Option (List ℕ) → Option StrictPaths → List ℕ → List ℕ → Ending → Type 0
-StopsDepfile files dialect end strict d c ended =
+abbrev pub StopsDepfile : Files → Dialect → Option (List ℕ) → Option StrictPaths → Option ElsewherePaths → List ℕ → List ℕ → Ending → Type 0
+StopsDepfile files dialect end strict elsewhere d c ended =
     (IsNoHeader end × (ended ≡ Err (Engine (BadPath 0))))
-    ⊎ ((header : Header) × IsHeaderOf dialect end header × RefusesRecord files dialect header strict d c ended)
+    ⊎ ((header : Header) × IsHeaderOf dialect end header × (options : RecordOptions) × AreRuleOptions elsewhere options
+    × RefusesRecord files dialect header options strict d c ended)
 
-abbrev pub EndsDepfile : Files → Effects → Option (List ℕ) → Option StrictPaths → List ℕ → List ℕ → List ℕ → Ending → Type 0
-EndsDepfile files effects end strict d t c ended =
-    (effects.same × StopsDepfile files effects.dialect end strict d c ended)
-    ⊎ ((header : Header) × IsHeaderOf effects.dialect end header × AllowsRecord files effects.dialect header strict d c
-    × (answer : Result RecordAnswer EngineError) × effects.ruling header d t c answer × Answered (depfile_line t) answer ended)
+abbrev pub EndsDepfile : Files → Effects → Option (List ℕ) → Option StrictPaths → Option ElsewherePaths → List ℕ → List ℕ → List ℕ → Ending → Type 0
+EndsDepfile files effects end strict elsewhere d t c ended =
+    (effects.same × StopsDepfile files effects.dialect end strict elsewhere d c ended)
+    ⊎ ((header : Header) × IsHeaderOf effects.dialect end header × (options : RecordOptions) × AreRuleOptions elsewhere options
+    × AllowsRecord files effects.dialect header options strict d c
+    × (answer : Result RecordAnswer EngineError) × effects.ruling header options d t c answer × Answered (depfile_line t) answer ended)
 
 -- Nothing has changed where the lists or what was kept can't be read. Else it ends as the engine answers.
 abbrev pub EndsRepair : Files → Effects → List ℕ → List ℕ → Option KeptPaths → Ending → Type 0
@@ -198,8 +203,8 @@ Ends honest effects old (Status c) ended new = honest → effects.same × EndsSt
 Ends honest effects old (Fixdep d t c) ended new =
     honest → effects.same × EndsFixdep effects.dialect old.files (string_bytes d) (string_bytes t) (string_bytes c) ended
 Ends honest effects old (Record d t c after options) ended new = honest → EndsRecord effects options (string_bytes d) (string_bytes t) (string_bytes c) ended
-Ends honest effects old (Depfile end strict d t c) ended new =
-    honest → EndsDepfile old.files effects (option_map (λ path. string_bytes path) end) strict (string_bytes d)
+Ends honest effects old (Depfile end strict elsewhere d t c) ended new =
+    honest → EndsDepfile old.files effects (option_map (λ path. string_bytes path) end) strict elsewhere (string_bytes d)
     (string_bytes t) (string_bytes c) ended
 Ends honest effects old (Repair stamps targets kept) ended new =
     honest → EndsRepair old.files effects (string_bytes stamps) (string_bytes targets) kept ended
@@ -223,9 +228,9 @@ Ends honest effects old (Cost top targets) ended new =
 -- ---- what the calls of the engine leave
 
 -- an object is recorded by a header that is known, and its dependency file left as a rule
-abbrev pub RecordsRule : Dialect → Files → Files → Header → List ℕ → List ℕ → List ℕ → Ending → Type 0
-RecordsRule dialect old new header d t c ended =
-    (answer : Result RecordAnswer EngineError) × LeavesDepfile (ruled_by header dialect) old new d t c answer × Answered (depfile_line t) answer ended
+abbrev pub RecordsRule : Dialect → Files → Files → Header → RecordOptions → List ℕ → List ℕ → List ℕ → Ending → Type 0
+RecordsRule dialect old new header options d t c ended =
+    (answer : Result RecordAnswer EngineError) × LeavesDepfile (ruled_by header options dialect) old new d t c answer × Answered (depfile_line t) answer ended
 
 abbrev pub LeavesMarks : Files → Files → BackdateScope → List (List ℕ) → Result ℕ EngineError → Type 0
 LeavesMarks old new which targets (Ok count) = MarksAll which targets old new count
@@ -244,7 +249,7 @@ by_files dialect honest old new = record {
   same = new.files ≡ old.files;
   sync = LeavesStamps old.files new.files;
   recording = λ options. LeavesRecord (usual_with options dialect) old.files new.files;
-  ruling = λ header. LeavesDepfile (ruled_by header dialect) old.files new.files;
+  ruling = λ header options. LeavesDepfile (ruled_by header options dialect) old.files new.files;
   repair = LeavesRepair old.files new.files;
   mark = LeavesMarks old.files new.files;
   stale = IsAnswerOn old.files;

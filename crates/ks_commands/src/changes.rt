@@ -10,20 +10,20 @@ ghost use Rattle.ks_engine.specs.declared.error.EngineError.TheVariants.{BadPath
 ghost use Rattle.ks_requests.specs.declared.refusal.Refusal.TheVariants.{Engine};
 ghost use Rattle.ks_requests.specs.declared.request.Stamps.TheVariants.{Declared};
 ghost use Rattle.ks_requests.specs.declared.status.Status.TheVariants.{Done};
-ghost use Rattle.ks_commands.specs.Depfiles.{IsHeaderOf, IsNoHeader};
+ghost use Rattle.ks_commands.specs.Depfiles.{AreOptions, AreRuleOptions, IsHeaderOf, IsNoHeader, IsPlace};
 ghost use Rattle.ks_commands.specs.Looking.{AllowsRecord, RefusesRecord};
 ghost use Rattle.ks_commands.specs.Stamps.{LeavesStamps};
 ghost use Rattle.ks_commands.specs.Performed.{EndsDepfile, EndsRecord, EndsSync, RecordsRule, by_files};
 
 use crate::looking::find_cause;
 use ks_engine::{
-    ConfigForm, ConfigTexts, EngineError, RecordOptions, Report, record_depfile,
+    ConfigForm, ConfigTexts, Elsewhere, EngineError, RecordOptions, Report, record_depfile,
     record_object_with, sync, sync_all_stamps,
 };
 use ks_fixdep::Header;
 use ks_requests::{
-    ConfigPaths, Outcome, Refusal, Stamps, StrictPaths, config_at, report_depfile, report_recorded,
-    report_sync,
+    ConfigPaths, ElsewherePaths, Outcome, RecordWords, Refusal, Stamps, StrictPaths, config_at,
+    report_depfile, report_recorded, report_sync,
 };
 use ks_symbols::{Dialect, Kconfig, path_is_legal};
 use ks_tree::Tree;
@@ -90,22 +90,58 @@ pub(crate) fn synchronise<T: Tree>(
     Ok(report_sync(alloc, &report)?)
 }
 
+/// Where the compiler ran, by the words of a request.
+fn place_of(elsewhere: &Option<ElsewherePaths>) -> Option<Elsewhere<'_>>
+    ensures { IsPlace elsewhere.now result }
+{
+    match elsewhere {
+        Some(paths) => Some(Elsewhere {
+            directory: paths.directory.as_bytes(),
+            tree: paths.tree.as_bytes(),
+        }),
+        None => None,
+    }
+}
+
+/// How a build asks for a record.
+fn options_of(words: &RecordWords) -> RecordOptions<'_>
+    ensures { AreOptions words.now result }
+{
+    RecordOptions {
+        adds_own_lines: words.adds_own_lines,
+        before_sync: words.before_sync,
+        elsewhere: place_of(&words.elsewhere),
+    }
+}
+
+/// How a build by dependency files does.
+fn rule_options(elsewhere: &Option<ElsewherePaths>) -> RecordOptions<'_>
+    ensures { AreRuleOptions elsewhere.now result }
+{
+    RecordOptions {
+        adds_own_lines: false,
+        before_sync: false,
+        elsewhere: place_of(elsewhere),
+    }
+}
+
 /// Writes the command file of an object, and prints under which generation. Its arguments are looked at by the engine.
 pub(crate) fn record_target<T: Tree>(
     alloc: Global,
     tree: &mut T,
     dialect: Dialect,
-    options: RecordOptions,
+    words: &RecordWords,
     depfile: &[u8],
     target: &[u8],
     command: &[u8],
 ) -> Result<Outcome, Refusal>
     ensures done { IfOk result (λ o. o.status ≡ Done) }
-    ensures files { T.is_honest → EndsRecord (by_files dialect T.is_honest (state T.Tree tree.old) (state T.Tree tree.new)) options depfile.now target.now command.now result }
+    ensures files { T.is_honest → EndsRecord (by_files dialect T.is_honest (state T.Tree tree.old) (state T.Tree tree.new)) words.now depfile.now target.now command.now result }
     ensures cause { result ≡ Err (Engine Device) → HasRisen (T.failures tree.old) (T.failures tree.new) }
     ensures memory { result ≡ Err (Engine OutOfMemory) → T.failures tree.new ≡ T.failures tree.old }
     ensures kept { T.backdated tree.new ≡ T.backdated tree.old }
 {
+    let options = options_of(words);
     let recorded = record_object_with(alloc, tree, options, dialect, depfile, target, command)?;
     Ok(report_recorded(alloc, target, &recorded)?)
 }
@@ -130,6 +166,7 @@ fn look_if_strict<T: Tree>(
     tree: &mut T,
     dialect: Dialect,
     header: Header<'_>,
+    options: RecordOptions<'_>,
     strict: &Option<StrictPaths>,
     depfile: &[u8],
     command: &[u8],
@@ -137,14 +174,16 @@ fn look_if_strict<T: Tree>(
     ensures reads { Reads T.Tree tree.old tree.new (result ≡ Err (Engine Device)) }
     ensures passed { OnOk result (T.failures tree.new ≡ T.failures tree.old) }
     ensures memory { result ≡ Err (Engine OutOfMemory) → T.failures tree.new ≡ T.failures tree.old }
-    ensures allowed { T.is_honest → OnOk result (AllowsRecord (T.files tree.old) dialect header.entry strict.now depfile.now command.now) }
-    ensures refused { T.is_honest → IfErr result (λ r. RefusesRecord (T.files tree.old) dialect header.entry strict.now
+    ensures allowed { T.is_honest → OnOk result (AllowsRecord (T.files tree.old) dialect header.entry options.entry strict.now depfile.now command.now) }
+    ensures refused { T.is_honest → IfErr result (λ r. RefusesRecord (T.files tree.old) dialect header.entry options.entry strict.now
         depfile.now command.now (Err r)) }
 {
     let Some(strict) = strict else {
         return Ok(());
     };
-    match find_cause(alloc, tree, dialect, header, strict, depfile, command)? {
+    match find_cause(
+        alloc, tree, dialect, header, options, strict, depfile, command,
+    )? {
         Some(hidden) => Err(Refusal::Hidden(hidden)),
         None => Ok(()),
     }
@@ -156,18 +195,21 @@ fn record_by_header<T: Tree>(
     tree: &mut T,
     dialect: Dialect,
     header: Header<'_>,
+    options: RecordOptions<'_>,
     depfile: &[u8],
     target: &[u8],
     command: &[u8],
 ) -> Result<Outcome, Refusal>
     ensures done { IfOk result (λ o. o.status ≡ Done) }
-    ensures files { T.is_honest → RecordsRule dialect (T.files tree.old) (T.files tree.new) header.entry depfile.now target.now command.now result }
+    ensures files { T.is_honest → RecordsRule dialect (T.files tree.old) (T.files tree.new) header.entry options.entry depfile.now target.now command.now result }
     ensures counted { Counted T.Tree tree.old tree.new (result ≡ Err (Engine Device)) }
     ensures memory { result ≡ Err (Engine OutOfMemory) → T.failures tree.new ≡ T.failures tree.old }
     ensures kept { T.backdated tree.new ≡ T.backdated tree.old }
 {
-    let recorded = record_depfile(alloc, tree, header, dialect, depfile, target, command)?;
-    Ok(report_depfile(alloc, target, &recorded)?)
+    let recorded = record_depfile(
+        alloc, tree, options, header, dialect, depfile, target, command,
+    );
+    Ok(report_depfile(alloc, target, &recorded?)?)
 }
 
 /// Writes the command file of an object, and then its dependency file anew, by its rule.
@@ -177,18 +219,24 @@ pub(crate) fn record_rule<T: Tree>(
     dialect: Dialect,
     header: Option<&str>,
     strict: &Option<StrictPaths>,
+    elsewhere: &Option<ElsewherePaths>,
     depfile: &[u8],
     target: &[u8],
     command: &[u8],
 ) -> Result<Outcome, Refusal>
     ensures done { IfOk result (λ o. o.status ≡ Done) }
     ensures files { T.is_honest → EndsDepfile (T.files tree.old) (by_files dialect T.is_honest (state T.Tree tree.old) (state T.Tree tree.new))
-        (option_map (λ p. p.now) header.entry) strict.now depfile.now target.now command.now result }
+        (option_map (λ p. p.now) header.entry) strict.now elsewhere.now depfile.now target.now command.now result }
     ensures cause { result ≡ Err (Engine Device) → HasRisen (T.failures tree.old) (T.failures tree.new) }
     ensures memory { result ≡ Err (Engine OutOfMemory) → T.failures tree.new ≡ T.failures tree.old }
     ensures kept { T.backdated tree.new ≡ T.backdated tree.old }
 {
     let header = header_of(dialect, header)?;
-    look_if_strict(alloc, tree, dialect, header, strict, depfile, command)?;
-    record_by_header(alloc, tree, dialect, header, depfile, target, command)
+    let options = rule_options(elsewhere);
+    look_if_strict(
+        alloc, tree, dialect, header, options, strict, depfile, command,
+    )?;
+    record_by_header(
+        alloc, tree, dialect, header, options, depfile, target, command,
+    )
 }

@@ -120,11 +120,12 @@ pub(crate) fn outcome<T: Backdating>(
         } => {
             let (depfile, command) = (depfile.as_bytes(), command.as_bytes());
             let target = target.as_bytes();
-            record_target(alloc, tree, dialect, *options, depfile, target, command)
+            record_target(alloc, tree, dialect, options, depfile, target, command)
         }
         Request::Depfile {
             header,
             strict,
+            elsewhere,
             depfile,
             target,
             command,
@@ -136,6 +137,7 @@ pub(crate) fn outcome<T: Backdating>(
                 dialect,
                 borrowed_path(header),
                 strict,
+                elsewhere,
                 depfile,
                 target.as_bytes(),
                 command,

@@ -11,13 +11,14 @@ ghost use Rattle.ks_hidden.specs.Precompiled.{is_among};
 ghost use Rattle.ks_hidden.specs.declared.hidden.Hidden.TheVariants.{Precompiled};
 ghost use Rattle.ks_tree.specs.Files.{content};
 ghost use Rattle.ks_tree.specs.Frames.{Reads};
+ghost use Rattle.ks_engine.specs.Places.{placed_by};
 ghost use Rattle.ks_engine.specs.Refusals.{IsAborted};
 ghost use Rattle.ks_requests.specs.Inputs.{given};
 ghost use Rattle.ks_commands.specs.Looking.{AreListed, AreLookedAt, IsDefinition, IsFound, IsHeader, IsInput, IsListRefused, IsLooked, IsLookedAt, IsSought, IsUnread, IsUnreadAmong, IsUnreadDefinition, IsUnreadFile, IsUnreadListed, AreFilesLooked, AreTools, IsBadTool, is_program, file_includes, has_source, includes_macro, is_header_name, is_included, is_listed, is_of_system, is_own, is_read, is_source, looked_by, path_of};
 
 use indexmap::IndexSet;
-use ks_engine::{EngineError, read_old};
-use ks_fixdep::{Header, Prerequisites, read_depfile_without};
+use ks_engine::{EngineError, RecordOptions, read_old};
+use ks_fixdep::{Header, Prerequisites, placed_text, read_depfile_without};
 use ks_hidden::{
     Hidden, defining_line, defining_word, foreign_line, hidden_line, lacks_definition,
     precompiled_candidates, unknown_argument,
@@ -254,8 +255,9 @@ fn without_source(
 ) -> Result<Option<Hidden>, AllocError>
     ensures { IfOk result (λ found. (p : List ℕ × Role) × (slice_get prerequisites.now 0 ≡ Some p) × (found ≡ Some (Precompiled p.0))) }
 {
-    let first = prerequisites.len() - prerequisites.len();
-    let Some((path, _)) = prerequisites.get(first) else {
+    // By this call alone the proof knows that there is one.
+    prerequisites.len();
+    let Some((path, _)) = prerequisites.get(0) else {
         unreachable!();
     };
     Ok(Some(Hidden::Precompiled(Path::new(alloc, path)?)))
@@ -343,13 +345,30 @@ fn look_for_cause<T: Tree>(
     find_definition(alloc, tree, &included, look.command, prerequisites)
 }
 
-/// The files that a dependency file lists, the header among them: no path ends in a line feed.
+/// The files that a text lists, the header among them: no path ends in a line feed.
 fn read_listed(alloc: Global, seed: Seed, text: &[u8]) -> Result<Prerequisites, EngineError>
     ensures listed { IfOk result (AreListed text.now) }
     ensures refused { IfErr result (λ e. IsAborted e ⊎ IsListRefused text.now e) }
     ensures no_device { IsErrOf result EngineError.Device → ⊥ }
 {
     Ok(read_depfile_without(alloc, seed, Header::At(b"\n"), text)?)
+}
+
+/// The files that a dependency file lists, by the paths that they have here.
+fn read_listed_at(
+    alloc: Global,
+    seed: Seed,
+    options: RecordOptions<'_>,
+    text: &[u8],
+) -> Result<Prerequisites, EngineError>
+    ensures listed { IfOk result (AreListed (placed_by options.entry text.now)) }
+    ensures refused { IfErr result (λ e. IsAborted e ⊎ IsListRefused (placed_by options.entry text.now) e) }
+    ensures no_device { IsErrOf result EngineError.Device → ⊥ }
+{
+    match options.elsewhere {
+        Some(place) => read_listed(alloc, seed, &placed_text(alloc, place.directory, text)?),
+        None => read_listed(alloc, seed, text),
+    }
 }
 
 /// The paths of all files that a dependency file lists.
@@ -415,6 +434,7 @@ fn look_at_files<T: Tree>(
     tree: &mut T,
     dialect: Dialect,
     header: Header<'_>,
+    options: RecordOptions<'_>,
     alias: &[u8],
     depfile: &[u8],
     command: &[u8],
@@ -422,11 +442,11 @@ fn look_at_files<T: Tree>(
     ensures reads { Reads T.Tree tree.old tree.new (IsErrOf result EngineError.Device) }
     ensures passed { OnOk result (T.failures tree.new ≡ T.failures tree.old) }
     ensures uncounted { IsErrOf result EngineError.OutOfMemory → T.failures tree.new ≡ T.failures tree.old }
-    ensures looked { T.is_honest → IfOk result (AreFilesLooked dialect header.entry alias.now (T.files tree.old) depfile.now command.now) }
-    ensures refused { T.is_honest → IfErr result (λ e. IsAborted e ⊎ IsUnreadFile dialect header.entry alias.now (T.files tree.old) depfile.now command.now e) }
+    ensures looked { T.is_honest → IfOk result (AreFilesLooked dialect header.entry options.entry alias.now (T.files tree.old) depfile.now command.now) }
+    ensures refused { T.is_honest → IfErr result (λ e. IsAborted e ⊎ IsUnreadFile dialect header.entry options.entry alias.now (T.files tree.old) depfile.now command.now e) }
 {
     let text = read_given(alloc, tree, depfile)?;
-    let prerequisites = read_listed(alloc, Seed::new(tree.seed()), &text)?;
+    let prerequisites = read_listed_at(alloc, Seed::new(tree.seed()), options, &text)?;
     let config = read_old(alloc, tree)?;
     let listed = path_set(alloc, Seed::new(tree.seed()), &prerequisites)?;
     let look = Looking {
@@ -447,6 +467,7 @@ pub(crate) fn find_cause<T: Tree>(
     tree: &mut T,
     dialect: Dialect,
     header: Header<'_>,
+    options: RecordOptions<'_>,
     strict: &StrictPaths,
     depfile: &[u8],
     command: &[u8],
@@ -454,8 +475,8 @@ pub(crate) fn find_cause<T: Tree>(
     ensures reads { Reads T.Tree tree.old tree.new (IsErrOf result EngineError.Device) }
     ensures passed { OnOk result (T.failures tree.new ≡ T.failures tree.old) }
     ensures uncounted { IsErrOf result EngineError.OutOfMemory → T.failures tree.new ≡ T.failures tree.old }
-    ensures looked { T.is_honest → IfOk result (IsLooked dialect header.entry strict.now (T.files tree.old) depfile.now command.now) }
-    ensures refused { T.is_honest → IfErr result (λ e. IsAborted e ⊎ IsUnread dialect header.entry strict.now (T.files tree.old) depfile.now command.now e) }
+    ensures looked { T.is_honest → IfOk result (IsLooked dialect header.entry options.entry strict.now (T.files tree.old) depfile.now command.now) }
+    ensures refused { T.is_honest → IfErr result (λ e. IsAborted e ⊎ IsUnread dialect header.entry options.entry strict.now (T.files tree.old) depfile.now command.now e) }
 {
     if let Some(word) = unknown_argument(alloc, command)? {
         return Ok(Some(Hidden::Argument(word)));
@@ -464,5 +485,7 @@ pub(crate) fn find_cause<T: Tree>(
         return Ok(Some(hidden));
     }
     let alias = strict.alias.as_bytes();
-    look_at_files(alloc, tree, dialect, header, alias, depfile, command)
+    look_at_files(
+        alloc, tree, dialect, header, options, alias, depfile, command,
+    )
 }

@@ -1,13 +1,36 @@
 -- What is left behind the record of an object shows what was shown before.
-use Rattle.ks_engine.proofs.Prelude.{Dialect, None, Role, listed_unless, rules_for, scanned_all, there, FollowsRecordedUnder, ◌≡◌, ◌≢◌, ◌⊎◌, inl, inr, ⊎_elim, ℕ, true, false, List, [], ◌∷◌, ◌++◌, Option, Some, Result, Ok, Err, IfOk, IfErr, IsTrue, sym, ◌∙◌, ap, refl, subst, arith, codes, nat_eq, append_assoc, length, ends_with, list_all, or_left, cases_Bool, and_parts, Decides-eqb, bytes_eq-Decides, ends_is, is_name, is_in, header_path, Dep, File, Config, Conventions, is_dep, config_names, rule_text, Files, content, kept_or, SameButBoth, temporary, auto_path, stamp_path, command_path, command_temporary, dotted, HasNumber, MakesStamps, apart, stamp-injective, ending-temporary, ending-auto, ending-header, ending-stamp, ending-command, EngineError, Draft, IsDraft, History, Shows, stamp, RecordPlan, IsRecordPlanUnder, IsRecordedUnder, IsRecordTriedUnder, at, is_own_file, RuleLeaves, RuleDone, RuleTried, IsDepfileRecorded, IsDepfileRefused, IsOldOrRule, FollowsDepfile, MadeStampsShow, rules, both_ways, or_right, or_cases, ◌<◌}
+use Rattle.ks_engine.proofs.Prelude.{Dialect, None, Role, listed_unless, rules_for, scanned_all, there, FollowsRecordedUnder, ◌≡◌, ◌≢◌, ◌⊎◌, inl, inr, ⊎_elim, ℕ, true, false, List, [], ◌∷◌, ◌++◌, Option, Some, Result, Ok, Err, IfOk, IfErr, IsTrue, sym, ◌∙◌, ap, refl, subst, arith, codes, nat_eq, append_assoc, length, ends_with, list_all, or_left, cases_Bool, and_parts, Decides-eqb, bytes_eq-Decides, ends_is, is_name, is_in, header_path, Dep, File, Config, Conventions, is_dep, config_names, Files, content, kept_or, SameButBoth, temporary, auto_path, stamp_path, command_path, command_temporary, dotted, HasNumber, MakesStamps, apart, stamp-injective, ending-temporary, ending-auto, ending-header, ending-stamp, ending-command, EngineError, Draft, IsDraft, History, Shows, stamp, RecordPlan, IsRecordPlanUnder, IsRecordedUnder, IsRecordTriedUnder, at, is_own_file, RuleLeaves, RuleDone, RuleTried, IsDepfileRecorded, IsDepfileRefused, IsOldOrRule, FollowsDepfile, MadeStampsShow, rules, both_ways, or_right, or_cases, ◌<◌}
 use Rattle.ks_engine.specs.declared.recording.Recorded.{Recorded as Answer}
 use Rattle.ks_tree.proofs.PathLemmas.{ending}
 use Rattle.ks_engine.proofs.Reading.{ok_ok}
 use Rattle.ks_engine.proofs.Steps.{same_shows}
 use Rattle.ks_fixdep.specs.declared.dep_error.DepError.{DepError}
 use Rattle.ks_fixdep.specs.declared.dependency_file.Header.{Header}
-use Rattle.ks_engine.specs.Depfile.{NamesCommand, ruled_by}
+use Rattle.std.proofs.Common.{append-nil}
+unfoldable use Rattle.ks_fixdep.specs.DependencyFile.{prerequisites_without}
+use Rattle.ks_fixdep.specs.CommandFile.{command_text}
+use Rattle.ks_engine.specs.declared.conventions.RecordOptions.{RecordOptions}
+use Rattle.ks_engine.specs.Refusals.{and_then}
+use Rattle.ks_engine.specs.Places.{depfile_at, placed_by, tree_of}
+use Rattle.std.specs.Prelude.{map}
+unfoldable use Rattle.ks_fixdep.specs.Rule.{rule_text}
+use Rattle.ks_fixdep.specs.Rule.{first_target, rule_of}
+unfoldable use Rattle.ks_fixdep.specs.Tokens.{tokens}
+use Rattle.ks_engine.specs.Depfile.{NamesCommand, rule_by, ruled_by}
 use Rattle.ks_engine.proofs.RecordSteps.{all_found, count_names, drafted_of, made_of, record_follows_under}
+
+-- ---- the rule
+
+-- what is made of the parts of a dependency file that was placed is its rule
+pub rule_is : (under : Conventions) (was text rule : List ℕ) (ps : List (List ℕ × Role)) (names listed : List (List ℕ)) → text ≡ placed_by under.options was
+    → ps ≡ prerequisites_without under.header text → names ≡ listed
+    → rule ≡ rule_of (tree_of under.options) (first_target (tokens text)) (map (λ p. p.0) ps) listed → rule ≡ rule_by under was names
+unfolding rule_text
+rule_is under was text rule ps names listed at are same is =
+    is
+    ∙ ap (λ (qs : List (List ℕ × Role)). rule_of (tree_of under.options) (first_target (tokens text)) (map (λ p. p.0) qs) listed) are
+    ∙ ap (λ ns. rule_of (tree_of under.options) (first_target (tokens text)) (map (λ p. p.0) (prerequisites_without under.header text)) ns) (sym same)
+    ∙ ap (λ t. rule_of (tree_of under.options) (first_target (tokens t)) (map (λ p. p.0) (prerequisites_without under.header t)) names) at
 
 -- ---- the commands' own files
 
@@ -136,14 +159,14 @@ module _ (conventions : Conventions) {old new : Files} (m n : ℕ) (h : History)
   pub depfile_follows : (r : Result Answer EngineError) → Shows old h → IfOk r (IsDepfileRecorded conventions old new d t c)
       → IfErr r (IsDepfileRefused conventions old new d t c) → (next : History) × FollowsDepfile conventions d t c r (at old m h) (at new n next) × Shows new next
   depfile_follows (Ok answer) shows ok err =
-      let next = after_record conventions old ok.between new m n h d t c answer _ _ (λ names. RuleDone ok.between new d names (rule_text conventions.header ok.was names))
+      let next = after_record conventions old ok.between new m n h d t c answer _ _ (λ names. RuleDone ok.between new d names (rule_by conventions ok.was names))
       ok.recorded shows ok.free ok.rule.leaves ok.rule in
       (next.0, record { between = at ok.between n next.0; recorded = next.1; history = refl; was = ok.was; was_there = ok.was_there; rule = next.2 }, next.3)
   depfile_follows (Err e) shows ok (inl own) = search rules
   depfile_follows (Err e) shows ok (inr (inl refused)) =
       let next = record_follows_under conventions old new m n h d t c (Err e) shows tt refused.1 in (next.0, inr (inl next.1), next.2)
   depfile_follows (Err e) shows ok (inr (inr (given, is))) =
-      let next = after_record conventions old is.between new m n h d t c is.answer _ _ (λ names. RuleTried is.between new d names (rule_text conventions.header is.was names))
+      let next = after_record conventions old is.between new m n h d t c is.answer _ _ (λ names. RuleTried is.between new d names (rule_by conventions is.was names))
       is.recorded shows is.free is.rule.1 is.rule in (
         next.0,
         inr (inr (given, record { answer = is.answer; between = at is.between n next.0; recorded = next.1; history = refl; was = is.was; was_there = is.was_there; rule = next.2 })),
@@ -152,9 +175,19 @@ module _ (conventions : Conventions) {old new : Files} (m n : ℕ) (h : History)
 
 -- ---- the names of the command
 
-there_some : (d : List ℕ) (file : Option (List ℕ)) (text : List ℕ) → there d file ≡ Ok text → file ≡ Some text
+pub there_some : (d : List ℕ) (file : Option (List ℕ)) (text : List ℕ) → there d file ≡ Ok text → file ≡ Some text
 there_some d None text e = absurd cc
 there_some d (Some b) text e = search (rules, ok_ok)
+
+-- a dependency file that is there, with the paths that it has here
+pub placed_some : (options : RecordOptions) (d : List ℕ) (file : Option (List ℕ)) (text : List ℕ) → depfile_at options d file ≡ Ok text
+    → (was : List ℕ) × (file ≡ Some was) × (text ≡ placed_by options was)
+placed_some options d file text e = placed_from (there d file) refl e
+  where
+    placed_from : (r : Result (List ℕ) EngineError) → there d file ≡ r → and_then r (λ b. Ok (placed_by options b)) ≡ Ok text
+        → (was : List ℕ) × (file ≡ Some was) × (text ≡ placed_by options was)
+    placed_from (Ok was) is e = (was, there_some d file was is, sym (ok_ok _ _ e))
+    placed_from (Err bad) is e = absurd cc
 
 all_listed : (refusal : Option DepError) (all ps : List (List ℕ × Role)) → listed_unless refusal all ≡ Ok ps → ps ≡ all
 all_listed None all ps e = sym (ok_ok all ps e)
@@ -167,28 +200,30 @@ command_kept between new d t text names made free legal leaves = leaves.others (
     (λ x among. apart (ending-command t) (ending-stamp x (legal x (leaves.within x among))) (λ e. omega arith)) (λ e. free_not d (command_path t) free (own-command t) (sym e))
     (apart (ending-command t) (ending-temporary d) (λ e. omega arith))
 
-pub names_command : (header : Header) (dialect : Dialect) (old new : Files) (d t c : List ℕ) (answer : Answer) → IsDepfileRecorded (ruled_by header dialect) old new d t c answer
-    → NamesCommand header dialect old new d t c
-names_command header dialect old new d t c answer is =
-    let under = ruled_by header dialect in
+pub names_command : (header : Header) (options : RecordOptions) (dialect : Dialect) (old new : Files) (d t c : List ℕ) (answer : Answer)
+    → IsDepfileRecorded (ruled_by header options dialect) old new d t c answer → NamesCommand header options dialect old new d t c
+names_command header options dialect old new d t c answer is =
+    let under = ruled_by header options dialect in
     let plan = is.recorded.plan in
     let planned = is.recorded.planned in
     let made = made_of under old d t c plan planned.planned in
     let parts = drafted_of under t c made.ps made.g (all_found made) plan made.draft in
+    let at = placed_some options d (content old d) made.text made.at in
     record {
-      was = made.text;
-      was_there = there_some d (content old d) made.text made.at;
+      was = at.0;
+      was_there = at.1;
       found = made.found;
-      scanned = subst (λ ps. scanned_all (rules_for dialect t) old ps ≡ Ok made.found) (all_listed _ _ made.ps made.listed) made.all;
+      scanned = subst (λ ps. scanned_all (rules_for dialect t) old ps ≡ Ok made.found)
+          (all_listed _ _ made.ps made.listed ∙ ap (prerequisites_without header) at.2) made.all;
       file = plan.file;
-      written = command_kept is.between new d t _ plan.names plan.names is.free (legal_names under old d t c plan planned) is.rule.leaves ∙ is.recorded.written ∙ ap (λ b. Some b) parts.text;
+      written = command_kept is.between new d t _ plan.names plan.names is.free (legal_names under old d t c plan planned) is.rule.leaves ∙ is.recorded.written ∙ ap (λ b. Some b) (parts.text ∙ append-nil (command_text plan.file));
       names = count_names under old d t c plan planned ∙ parts.names;
     }
 
 -- ---- the dependency file
 
 module _ {conventions : Conventions} {old new : Files} {d t c : List ℕ} {e : EngineError} where
-  pub old_or_rule : IsDepfileRefused conventions old new d t c e → IsOldOrRule conventions.header (content old d) (content new d)
+  pub old_or_rule : IsDepfileRefused conventions old new d t c e → IsOldOrRule conventions (content old d) (content new d)
   old_or_rule (inl own) = inl (ap (λ f. content f d) own.2)
   old_or_rule (inr (inl (free, inl plain))) = inl (ap (λ f. content f d) plain.1)
   old_or_rule (inr (inl (free, inr (given, inl same)))) = inl (ap (λ f. content f d) same)

@@ -98,10 +98,10 @@ step_goes_on dialect old (Record options d t c) (Recorded (Ok answer)) new h sho
     record_follows_under (usual_with options dialect) old.files new.files old.failures new.failures h d t c (Ok answer) shows is tt
 step_goes_on dialect old (Record options d t c) (Recorded (Err e)) new h shows is =
     record_follows_under (usual_with options dialect) old.files new.files old.failures new.failures h d t c (Err e) shows tt is
-step_goes_on dialect old (Depfile header d t c) (Recorded (Ok answer)) new h shows is =
-    depfile_follows (ruled_by header dialect) old.failures new.failures h d t c (Ok answer) shows is tt
-step_goes_on dialect old (Depfile header d t c) (Recorded (Err e)) new h shows is =
-    depfile_follows (ruled_by header dialect) old.failures new.failures h d t c (Err e) shows tt is
+step_goes_on dialect old (Depfile header options d t c) (Recorded (Ok answer)) new h shows is =
+    depfile_follows (ruled_by header options dialect) old.failures new.failures h d t c (Ok answer) shows is tt
+step_goes_on dialect old (Depfile header options d t c) (Recorded (Err e)) new h shows is =
+    depfile_follows (ruled_by header options dialect) old.failures new.failures h d t c (Err e) shows tt is
 step_goes_on dialect old (Stale o) (Evaluated r) new h shows is = stays dialect old (Stale o) (Evaluated r) new h shows is is.0
 step_goes_on dialect old (Why o) (Explained r spelling) new h shows is = stays dialect old (Why o) (Explained r spelling) new h shows is is.0
 step_goes_on dialect old (Stale o) (Explained r spelling) new h shows is = stays dialect old (Stale o) (Explained r spelling) new h shows is is.0

@@ -5,8 +5,8 @@ pub use Rattle.ks_output.proofs.ReadBack.{generation_reads_back as generation_ba
 -- a generation that is read fits 64 bits
 pub use Rattle.ks_output.proofs.SmallNumbers.{generation_fits as small_generation}
 -- lines that follow a record change nothing of how it reads
-use Rattle.ks_fixdep.proofs.OwnLineLemmas.{own_lines_read as own_lines_read_by}
-use Rattle.ks_fixdep.specs.OwnLines.{OwnLinesAreFurther}
+use Rattle.ks_fixdep.proofs.OwnLineLemmas.{further_lines_read as further_lines_read_by}
+use Rattle.ks_fixdep.specs.OwnLines.{FurtherLinesAreRead}
 -- the names of a record are those found in its prerequisites
 pub use Rattle.ks_fixdep.proofs.DepsLemmas.{record_names as names_of_record}
 
@@ -23,5 +23,5 @@ pub written_reads : ReadsBack
 written_reads f legal = lines-read f (lines (command_text f)) (written-reads reads_back f legal)
 
 -- and it does with the lines behind it that a build asks for
-pub own_lines_read : OwnLinesAreFurther
-own_lines_read = own_lines_read_by reads_back
+pub further_lines_read : FurtherLinesAreRead
+further_lines_read = further_lines_read_by reads_back

@@ -1,12 +1,17 @@
 -- A record goes on with each history that the files show.
-use Rattle.ks_engine.proofs.Prelude.{Bool, true, false, subst, IsLegal, Option, None, reading, names_of, there, ◌≡◌, ◌⊎◌, inl, inr, ⊎_elim, ℕ, ◌<◌, ◌≤◌, List, [], Some, Result, Ok, Err, IfOk, IfErr, sym, ◌∙◌, ap, refl, length, ltb-false, eqb-false, max_bytes, Conventions, Dialect, Role, rules_for, CommandRecord, command_text, config_names, record_of, Files, content, SameButBoth, auto_path, command_path, command_temporary, EngineError, and_then, History, done, WasSynced, Shows, IsCommandFile, at, FollowsRecordUnder, IsRecordEvent, OldAuto, synced_at, last_generation, scanned_all, with_command, RecordPlan, numbered, drafted, record_plan_under, IsRecordPlanUnder, IsRecordedUnder, IsRecordRefusedUnder, rules}
+use Rattle.ks_engine.proofs.Prelude.{Bool, true, false, subst, IsLegal, IsTrue, Option, None, and_parts, ◌&&◌, ◌++◌, if◌then◌else◌, is_path, reading, names_of, ◌≡◌, ◌⊎◌, inl, inr, ⊎_elim, ℕ, ◌<◌, ◌≤◌, List, [], Some, Result, Ok, Err, IfOk, IfErr, sym, ◌∙◌, ap, refl, length, ltb-false, eqb-false, max_bytes, Conventions, Dialect, Role, rules_for, CommandRecord, command_text, config_names, record_of, Files, content, SameButBoth, auto_path, command_path, command_temporary, EngineError, and_then, History, done, WasSynced, Shows, IsCommandFile, at, FollowsRecordUnder, IsRecordEvent, OldAuto, synced_at, last_generation, scanned_all, with_command, RecordPlan, numbered, drafted, record_plan_under, IsRecordPlanUnder, IsRecordedUnder, IsRecordRefusedUnder, rules}
+use Rattle.std.specs.Prelude.{IfSome, flat_map}
+use Rattle.std.proofs.Common.{append-nil}
+use Rattle.ks_fixdep.specs.CommandFile.{ended}
 use Rattle.ks_engine.specs.declared.recording.Recorded.{Recorded as Answer}
 use Rattle.ks_engine.specs.Recording.{listed_without}
 use Rattle.ks_engine.proofs.Heart.{synced_or_not}
 use Rattle.ks_engine.specs.History.{Begun, Synced, Broken, Recorded}
-use Rattle.ks_engine.specs.Recorded.{recorded_at, with_own_lines}
+use Rattle.ks_fixdep.specs.OwnLines.{further_lines}
+use Rattle.ks_engine.specs.Places.{depfile_at, legal_at, legal_place, place_of}
+use Rattle.ks_engine.specs.Recorded.{recorded_at, with_further_lines}
 use Rattle.ks_engine.specs.Shows.{IsAuto}
-use Rattle.ks_engine.proofs.LowerLaws.{names_of_record, own_lines_read, written_reads}
+use Rattle.ks_engine.proofs.LowerLaws.{further_lines_read, names_of_record, written_reads}
 use Rattle.ks_engine.proofs.Reading.{ok_ok, err_ok}
 use Rattle.ks_engine.proofs.Steps.{auto_read, recorded_shows, unclaimed_shows, untouched_shows}
 
@@ -22,7 +27,8 @@ pub record Made (conventions : Conventions) (files : Files) (d t c : List ℕ) (
   pub ps : List (List ℕ × Role)
   pub g : ℕ
   pub found : List (List (List ℕ))
-  pub at : there d (content files d) ≡ Ok text
+  pub place : legal_place conventions.options ≡ Ok tt
+  pub at : depfile_at conventions.options d (content files d) ≡ Ok text
   pub listed : listed_without conventions.header text ≡ Ok ps
   pub synced : recorded_at conventions.options.before_sync (content files auto_path) ≡ Ok g
   pub all : scanned_all (rules_for conventions.dialect t) files ps ≡ Ok found
@@ -42,7 +48,7 @@ pub record Drafted (conventions : Conventions) (t c : List ℕ) (ps : List (List
   pub file : plan.file ≡ numbered (record_of t c ps found) g
   pub generation : plan.generation ≡ g
   pub names : plan.names ≡ names_of found
-  pub text : plan.text ≡ with_own_lines conventions.options.adds_own_lines conventions.dialect t plan.names (command_text plan.file)
+  pub text : plan.text ≡ with_further_lines conventions t plan.names (command_text plan.file)
   pub small : length plan.text ≤ max_bytes
 
 pub drafted_of : (conventions : Conventions) (t c : List ℕ) (ps : List (List ℕ × Role)) (g : ℕ) (found : List (List (List ℕ))) (plan : RecordPlan)
@@ -85,10 +91,23 @@ plan_numbered : (before_sync : Bool) (files : Files) (h : History) (g : ℕ) →
 plan_numbered before_sync files h g shows is = plan_numbered_at before_sync files h g (content files auto_path) shows refl is
 
 -- a command file reads as its record, whatever a build asks for behind it
-text_reads : (adds : Bool) (dialect : Dialect) (f : CommandRecord) (names : List (List ℕ)) → IsLegal f → names ≡ config_names f.deps
-    → reading (with_own_lines adds dialect f.target names (command_text f)) ≡ Ok f
-text_reads false dialect f names legal are = written_reads f legal
-text_reads true dialect f names legal are = rw are (own_lines_read dialect f legal)
+ok_if : (b : Bool) (e : EngineError) (r : Result (Unit {0}) EngineError) → r ≡ (if b then Ok tt else Err e) → r ≡ Ok tt → b ≡ true
+ok_if true e r is ok = refl
+ok_if false e r is ok = absurd cc
+
+tree_legal : (place : Option (List ℕ × List ℕ)) → legal_at place ≡ Ok tt → IfSome place (λ p. IsTrue (is_path p.1))
+tree_legal None legal = tt
+tree_legal (Some place) legal = (and_parts _ _ (ok_if (is_path place.0 && is_path place.1) _ (legal_at (Some place)) refl legal)).1
+
+lines_read : (scans adds : Bool) (dialect : Dialect) (place : Option (List ℕ × List ℕ)) (f : CommandRecord) (names : List (List ℕ)) → IsLegal f → names ≡ config_names f.deps
+    → legal_at place ≡ Ok tt
+    → reading (command_text f ++ flat_map ended (if scans then [] else further_lines adds dialect place f.target names)) ≡ Ok f
+lines_read true adds dialect place f names legal are at = ap reading (append-nil (command_text f)) ∙ written_reads f legal
+lines_read false adds dialect place f names legal are at = rw are (further_lines_read adds dialect place f legal (tree_legal place at))
+
+text_reads : (under : Conventions) (f : CommandRecord) (names : List (List ℕ)) → IsLegal f → names ≡ config_names f.deps → legal_place under.options ≡ Ok tt
+    → reading (with_further_lines under f.target names (command_text f)) ≡ Ok f
+text_reads under f names legal are at = lines_read under.scans_command under.options.adds_own_lines under.dialect (place_of under.options) f names legal are at
 
 -- the command file of a plan says what is recorded
 plan_records : (under : Conventions) (files : Files) (h : History) (d t c header : List ℕ) (plan : RecordPlan) → Shows files h → IsRecordPlanUnder under files d t c plan
@@ -100,13 +119,13 @@ plan_records under files h d t c header plan shows is =
     let synced = plan_numbered under.options.before_sync files h made.g shows made.synced in
     let names = count_names under files d t c plan is in
     let target = ap (λ (f : CommandRecord). f.target) parts.file in
-    let reads = text_reads under.options.adds_own_lines under.dialect plan.file plan.names is.legal (sym names) in (
+    let reads = text_reads under plan.file plan.names is.legal (sym names) made.place in (
       synced.1,
       parts.generation ∙ synced.0,
       record {
         small = parts.small;
         file = plan.file;
-        reads = ap reading (parts.text ∙ ap (λ o. with_own_lines under.options.adds_own_lines under.dialect o plan.names (command_text plan.file)) (sym target)) ∙ reads;
+        reads = ap reading (parts.text ∙ ap (λ o. with_further_lines under o plan.names (command_text plan.file)) (sym target)) ∙ reads;
         target = target;
         command = ap (λ (f : CommandRecord). f.command) parts.file;
         names = names;

@@ -21,8 +21,8 @@ goes_on dialect old (SyncAllStamps k d) (Synced (Ok report)) new is = search rul
 goes_on dialect old (SyncAllStamps k d) (Synced (Err e)) new is = search rules
 goes_on dialect old (Record options d o c) (Recorded (Ok answer)) new is = search rules
 goes_on dialect old (Record options d o c) (Recorded (Err e)) new is = search rules
-goes_on dialect old (Depfile header d o c) (Recorded (Ok answer)) new is = search rules
-goes_on dialect old (Depfile header d o c) (Recorded (Err e)) new is = search rules
+goes_on dialect old (Depfile header options d o c) (Recorded (Ok answer)) new is = search rules
+goes_on dialect old (Depfile header options d o c) (Recorded (Err e)) new is = search rules
 goes_on dialect old a r new is = search rules
 
 pub none_first : (dialect : Dialect) (first : TreeState) (steps : List Step) (last : TreeState) → Leads dialect first steps last → NoneBroken last.history → NoneBroken first.history
@@ -62,7 +62,7 @@ reported dialect old (Sync k d) (Synced r) new is = (tt, λ none. tt, tt)
 reported dialect old (SyncFrom s) (Synced r) new is = (tt, λ none. tt, tt)
 reported dialect old (SyncAllStamps k d) (Synced r) new is = (tt, λ none. tt, tt)
 reported dialect old (Record options d t c) (Recorded r) new is = (tt, λ none. tt, tt)
-reported dialect old (Depfile header d t c) (Recorded r) new is = (tt, λ none. tt, tt)
+reported dialect old (Depfile header options d t c) (Recorded r) new is = (tt, λ none. tt, tt)
 reported dialect old a r new is = says old a r is.recorded
 
 -- ---- a run, step by step

@@ -26,7 +26,7 @@ pub data Action : Type 0 where
   SyncAllStamps : (kconfig : KconfigText) (dotconfig : List ℕ) → Action
   Record : RecordOptions → (depfile target command : List ℕ) → Action
   -- and the dependency file becomes one rule
-  Depfile : Header → (depfile target command : List ℕ) → Action
+  Depfile : Header → RecordOptions → (depfile target command : List ℕ) → Action
   Stale : (target : List ℕ) → Action
   Why : (target : List ℕ) → Action
   -- whether it would be stale after a synchronisation

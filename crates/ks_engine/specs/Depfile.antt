@@ -18,8 +18,10 @@ use Rattle.ks_engine.specs.declared.error.EngineError.TheVariants.{BadPath}
 use Rattle.ks_engine.specs.declared.recording.Recorded.{Recorded as RecordAnswer}
 use Rattle.ks_engine.specs.declared.depfile.Ruled.{Ruled}
 use Rattle.ks_engine.specs.Refusals.{IsAborted}
+use Rattle.ks_engine.specs.Places.{placed_by, tree_of}
 use Rattle.ks_engine.specs.Recording.{scanned_all}
-use Rattle.ks_engine.specs.Recorded.{RecordPlan, IsRecordedUnder, IsRecordRefusedUnder, no_options}
+use Rattle.ks_engine.specs.declared.conventions.RecordOptions.{RecordOptions}
+use Rattle.ks_engine.specs.Recorded.{RecordPlan, IsRecordedUnder, IsRecordRefusedUnder}
 use Rattle.ks_engine.specs.Drafts.{IsDraft}
 use Rattle.ks_engine.specs.Follows.{TreeState, IsSame, FollowsRecordedUnder, FollowsRecordUnder}
 
@@ -30,8 +32,12 @@ is_own_file path =
     || ends_with nat_eq path (codes ".tmp")
 
 -- How an object is read that is recorded so: by this header, and with the words of its command.
-abbrev pub ruled_by : Header → Dialect → Conventions
-ruled_by header dialect = record { header = header; dialect = dialect; scans_command = true; options = no_options }
+abbrev pub ruled_by : Header → RecordOptions → Dialect → Conventions
+ruled_by header options dialect = record { header = header; dialect = dialect; scans_command = true; options = options }
+
+-- the rule that is left of a dependency file
+abbrev pub rule_by : Conventions → List ℕ → List (List ℕ) → List ℕ
+rule_by conventions was names = rule_text (tree_of conventions.options) conventions.header (placed_by conventions.options was) names
 
 -- ---- after the record
 
@@ -58,7 +64,7 @@ pub record IsRuled (conventions : Conventions) (files : Files) (depfile : List �
   pub names : r.names.items ≡ plan.names
   pub was : List ℕ
   pub was_there : content files depfile ≡ Some was
-  pub rule : r.rule.items ≡ rule_text conventions.header was plan.names
+  pub rule : r.rule.items ≡ rule_by conventions was plan.names
 
 -- ---- the whole, by the files
 
@@ -69,14 +75,14 @@ pub record IsDepfileRecorded (conventions : Conventions) (old new : Files) (depf
   pub recorded : IsRecordedUnder conventions old between depfile target command answer
   pub was : List ℕ
   pub was_there : content old depfile ≡ Some was
-  pub rule : RuleDone between new depfile recorded.plan.names (rule_text conventions.header was recorded.plan.names)
+  pub rule : RuleDone between new depfile recorded.plan.names (rule_by conventions was recorded.plan.names)
 
 -- The command file that is left names what was found in the prerequisites, in their order, and then what the words of the command do.
-pub record NamesCommand (header : Header) (dialect : Dialect) (old new : Files) (depfile target command : List ℕ) : Type 0 where
+pub record NamesCommand (header : Header) (options : RecordOptions) (dialect : Dialect) (old new : Files) (depfile target command : List ℕ) : Type 0 where
   pub was : List ℕ
   pub was_there : content old depfile ≡ Some was
   pub found : List (List (List ℕ))
-  pub scanned : scanned_all (rules_for dialect target) old (prerequisites_without header was) ≡ Ok found
+  pub scanned : scanned_all (rules_for dialect target) old (prerequisites_without header (placed_by options was)) ≡ Ok found
   pub file : CommandRecord
   pub written : content new (command_path target) ≡ Some (command_text file)
   pub names : config_names file.deps ≡ names_of (found ++ names_in_as (rules_for dialect target) command ∷ [])
@@ -89,7 +95,7 @@ pub record IsDepfileBroken (conventions : Conventions) (old new : Files) (depfil
   pub recorded : IsRecordedUnder conventions old between depfile target command answer
   pub was : List ℕ
   pub was_there : content old depfile ≡ Some was
-  pub rule : RuleTried between new depfile recorded.plan.names (rule_text conventions.header was recorded.plan.names)
+  pub rule : RuleTried between new depfile recorded.plan.names (rule_by conventions was recorded.plan.names)
 
 -- It was refused for the path, or as a record is, or given up after the record.
 abbrev pub IsDepfileRefused : Conventions → Files → Files → List ℕ → List ℕ → List ℕ → EngineError → Type 0
@@ -99,8 +105,8 @@ IsDepfileRefused conventions old new depfile target command e =
     ⊎ (IsAborted e × IsDepfileBroken conventions old new depfile target command))
 
 -- The dependency file is the old one, or whole by its rule.
-abbrev pub IsOldOrRule : Header → Option (List ℕ) → Option (List ℕ) → Type 0
-IsOldOrRule header old new = (new ≡ old) ⊎ ((was : List ℕ) × (names : List (List ℕ)) × (old ≡ Some was) × (new ≡ Some (rule_text header was names)))
+abbrev pub IsOldOrRule : Conventions → Option (List ℕ) → Option (List ℕ) → Type 0
+IsOldOrRule conventions old new = (new ≡ old) ⊎ ((was : List ℕ) × (names : List (List ℕ)) × (old ≡ Some was) × (new ≡ Some (rule_by conventions was names)))
 
 -- ---- the whole, by histories
 
@@ -111,7 +117,7 @@ pub record FollowsRuleDone (conventions : Conventions) (old : TreeState) (depfil
   pub history : new.history ≡ between.history
   pub was : List ℕ
   pub was_there : content old.files depfile ≡ Some was
-  pub rule : RuleDone between.files new.files depfile recorded.files.plan.names (rule_text conventions.header was recorded.files.plan.names)
+  pub rule : RuleDone between.files new.files depfile recorded.files.plan.names (rule_by conventions was recorded.files.plan.names)
 
 pub record FollowsRuleTried (conventions : Conventions) (old : TreeState) (depfile target command : List ℕ) (new : TreeState) : Type 0 where
   pub answer : RecordAnswer
@@ -120,7 +126,7 @@ pub record FollowsRuleTried (conventions : Conventions) (old : TreeState) (depfi
   pub history : new.history ≡ between.history
   pub was : List ℕ
   pub was_there : content old.files depfile ≡ Some was
-  pub rule : RuleTried between.files new.files depfile recorded.files.plan.names (rule_text conventions.header was recorded.files.plan.names)
+  pub rule : RuleTried between.files new.files depfile recorded.files.plan.names (rule_by conventions was recorded.files.plan.names)
 
 abbrev pub FollowsDepfile : Conventions → List ℕ → List ℕ → List ℕ → Result RecordAnswer EngineError → TreeState → TreeState → Type 0
 FollowsDepfile conventions depfile target command (Ok answer) old new = FollowsRuleDone conventions old depfile target command answer new

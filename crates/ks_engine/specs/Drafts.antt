@@ -1,5 +1,5 @@
 -- A command file as the code has it before it is written.
-use Rattle.std.specs.Prelude.{◌≡◌, ℕ, List, Some, Result, length}
+use Rattle.std.specs.Prelude.{◌≡◌, ℕ, List, Ok, Result, length}
 use Rattle.ks_fixdep.specs.DependencyFile.{prerequisites_without}
 use Rattle.ks_fixdep.specs.Record.{config_names}
 use Rattle.ks_fixdep.specs.declared.dependency_file.Role.{Role}
@@ -10,6 +10,7 @@ use Rattle.ks_engine.specs.declared.conventions.Conventions.{Conventions}
 use Rattle.ks_engine.specs.declared.error.EngineError.{EngineError}
 use Rattle.ks_engine.specs.declared.recording.Draft.{Draft}
 use Rattle.ks_engine.specs.declared.recording.Prepared.{Prepared}
+use Rattle.ks_engine.specs.Places.{depfile_at}
 use Rattle.ks_engine.specs.Recorded.{RecordPlan, drafted, recorded_at}
 use Rattle.ks_engine.specs.Recording.{scanned_all, with_command}
 use Rattle.ks_engine.specs.Refusals.{and_then}
@@ -29,6 +30,6 @@ pub record IsDraft (plan : RecordPlan) (draft : Draft) : Type 0 where
 -- what stands ready of a plan: its draft, the names that are listed in it, and the dependency file that it was made of, with its prerequisites
 pub record IsPrepared (conventions : Conventions) (files : Files) (depfile : List ℕ) (plan : RecordPlan) (listed : List (List ℕ)) (p : Prepared) : Type 0 where
   pub draft : IsDraft plan p.draft
-  pub text : content files depfile ≡ Some p.depfile.items
+  pub text : depfile_at conventions.options depfile (content files depfile) ≡ Ok p.depfile.items
   pub prerequisites : p.prerequisites ≡ prerequisites_without conventions.header p.depfile.items
   pub names : plan.names ≡ listed

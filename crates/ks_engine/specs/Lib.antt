@@ -13,6 +13,7 @@ pub mod BuildStates
 pub mod Evaluated
 pub mod Explained
 pub mod Recording
+pub mod Places
 pub mod Caches
 pub mod Costs
 pub mod Recorded

@@ -31,7 +31,7 @@ Leaves dialect old (Sync kconfig dotconfig) (Synced r) new = FollowsSync (FromKc
 Leaves dialect old (SyncFrom source) (Synced r) new = FollowsSync source r old new
 Leaves dialect old (SyncAllStamps kconfig dotconfig) (Synced r) new = FollowsSyncAllStamps kconfig dotconfig r old new
 Leaves dialect old (Record options depfile target command) (Recorded r) new = FollowsRecordUnder (usual_with options dialect) depfile target command r old new
-Leaves dialect old (Depfile header depfile target command) (Recorded r) new = FollowsDepfile (ruled_by header dialect) depfile target command r old new
+Leaves dialect old (Depfile header options depfile target command) (Recorded r) new = FollowsDepfile (ruled_by header options dialect) depfile target command r old new
 Leaves dialect old action reply new = FollowsQuery dialect old action reply new
 
 -- .. where the count of failures never fell, and the device is to blame only where it rose

@@ -6,19 +6,31 @@ ghost use Rattle.ks_engine.specs.Recorded.{usual_with};
 use ks_fixdep::Header;
 use ks_symbols::Dialect;
 
-/// What a command file has for a build beside the record.
-#[derive(Clone, Copy, Debug, PartialEq, Eq)]
-pub struct RecordOptions {
+/// A compiler that ran in another directory than that of the tree.
+#[derive(Clone, Copy, Debug)]
+pub struct Elsewhere<'a> {
+    /// That directory, from the root: what the compiler names is below it, unless it is named from the root as well.
+    pub directory: &'a [u8],
+    /// The tree by the name that the build has for it there.
+    pub tree: &'a [u8],
+}
+
+/// How a build asks for a record.
+#[derive(Clone, Copy, Debug)]
+pub struct RecordOptions<'a> {
     /// Whether lines follow for a make that looks for the command under `cmd_`, and in other projects than Linux for stamps of its own.
     pub adds_own_lines: bool,
     /// Whether an object has generation 0 where there is no auto.conf yet, as a program of the build itself.
     pub before_sync: bool,
+    /// Where the compiler ran, if not in the directory of the tree.
+    pub elsewhere: Option<Elsewhere<'a>>,
 }
 
 /// Nothing beside the record.
-pub(crate) const NO_OPTIONS: RecordOptions = RecordOptions {
+pub(crate) const NO_OPTIONS: RecordOptions<'static> = RecordOptions {
     adds_own_lines: false,
     before_sync: false,
+    elsewhere: None,
 };
 
 /// How the sources of an object are read, and what is written of them.
@@ -30,14 +42,14 @@ pub struct Conventions<'a> {
     pub dialect: Dialect,
     /// Whether the words of the command name symbols too, like those of a source that comes after all prerequisites.
     pub scans_command: bool,
-    /// What the command file has beside the record.
-    pub options: RecordOptions,
+    /// How the build asks for it.
+    pub options: RecordOptions<'a>,
 }
 
-impl Conventions<'static> {
+impl<'a> Conventions<'a> {
     /// Those of a record: the usual header of the project is left out, and the words of the command aren't looked at.
-    pub(crate) fn of_record(dialect: Dialect, options: RecordOptions) -> Conventions<'static>
-        ensures { result ≡ usual_with options dialect }
+    pub(crate) fn of_record(dialect: Dialect, options: RecordOptions<'a>) -> Conventions<'a>
+        ensures { result ≡ usual_with options.entry dialect }
     {
         Conventions {
             header: Header::usual(dialect),

@@ -3,7 +3,7 @@
 //! its place. With `-DFEATURE=CONFIG_N` the command itself mentions one, and the compiler lists no file for that: so the command is
 //! scanned too. The record comes first: until it is made the compiler's own file stays, and the object is rebuilt too often and
 //! never too rarely.
-ghost use Rattle.std.specs.Prelude.{◌≡◌, ◌⊎◌, ◌||◌, List, ℕ, false, true, IfErr, IfOk, IsErrOf, IsTrue, OnErr, OnOk, Ok, Err, Some, None, map};
+ghost use Rattle.std.specs.Prelude.{◌≡◌, ◌⊎◌, ◌||◌, List, ℕ, false, option_map, true, IfErr, IfOk, IsErrOf, IsTrue, OnErr, OnOk, Ok, Err, Some, None, map};
 ghost use Rattle.ks_symbols.specs.Names.{is_in, is_name};
 ghost use Rattle.ks_fixdep.specs.Rule.{first_target, rule_of};
 ghost use Rattle.ks_fixdep.specs.SourceScan.{listed_of};
@@ -16,10 +16,11 @@ ghost use Rattle.ks_engine.specs.Recorded.{RecordPlan, IsRecordPlanUnder, record
 ghost use Rattle.ks_engine.specs.Follows.{GoesOn};
 ghost use Rattle.ks_engine.specs.Caches.{IsCacheOf};
 ghost use Rattle.ks_engine.specs.Depfile.{FollowsDepfile, IsDepfileRecorded, IsDepfileRefused, IsOldOrRule, IsRuled, NamesCommand, RuleDone, RuleTried, is_own_file, ruled_by};
+ghost use Rattle.ks_engine.specs.Places.{tree_of};
 
 use crate::EngineError;
 use crate::caches::Cache;
-use crate::conventions::{Conventions, NO_OPTIONS};
+use crate::conventions::{Conventions, RecordOptions};
 use crate::recording::{Draft, Prepared, Recorded, prepare, write_record};
 use ks_fixdep::{Header, NamesBySource, listed_names, rule_text};
 use ks_symbols::{Dialect, Name, Seed};
@@ -54,14 +55,36 @@ fn temporary(alloc: Global, depfile: &[u8]) -> Result<Vec<u8>, AllocError>
     Ok(path)
 }
 
+/// The name that the build has for the tree, where that is another one.
+fn tree_of<'a>(options: RecordOptions<'a>) -> Option<&'a [u8]>
+    ensures { option_map (λ t. t.now) result ≡ tree_of options.entry }
+{
+    match options.elsewhere {
+        Some(place) => Some(place.tree),
+        None => None,
+    }
+}
+
 /// Makes the rule of an object for which the rest stands ready, and the names that it lists.
-fn make_rule(alloc: Global, prepared: Prepared, found: &NamesBySource) -> Result<Ruled, EngineError>
+fn make_rule(
+    alloc: Global,
+    options: RecordOptions<'_>,
+    prepared: Prepared,
+    found: &NamesBySource,
+) -> Result<Ruled, EngineError>
     ensures ruled { IfOk result (λ r. (r.draft ≡ prepared.draft) × (r.names.items ≡ listed_of found.now)
-        × (r.rule.items ≡ rule_of (first_target (tokens prepared.depfile.items)) (map (λ p. p.0) prepared.prerequisites) (listed_of found.now))) }
+        × (r.rule.items ≡ rule_of (tree_of options.entry) (first_target (tokens prepared.depfile.items)) (map (λ p. p.0) prepared.prerequisites) (listed_of found.now))) }
     ensures memory { OnErr result (result ≡ Err EngineError.OutOfMemory) }
 {
     let names = listed_names(alloc, found)?;
-    let rule = rule_text(alloc, &prepared.depfile, &prepared.prerequisites, &names)?;
+    let tree = tree_of(options);
+    let rule = rule_text(
+        alloc,
+        tree,
+        &prepared.depfile,
+        &prepared.prerequisites,
+        &names,
+    )?;
     Ok(Ruled {
         draft: prepared.draft,
         names,
@@ -90,7 +113,7 @@ fn prepare_rule_by<T: Tree>(
         ⊎ (record_plan_under conventions.entry (T.files tree.old) depfile.now target.now command.now ≡ Err e)) }
 {
     let prepared = prepare(alloc, tree, cache, conventions, depfile, target, command)?;
-    make_rule(alloc, prepared, &cache.found)
+    make_rule(alloc, conventions.options, prepared, &cache.found)
 }
 
 /// All steps before the first write.
@@ -153,6 +176,7 @@ fn leave_rule<T: Tree>(
 pub fn record_depfile<T: Tree>(
     alloc: Global,
     tree: &mut T,
+    options: RecordOptions<'_>,
     header: Header<'_>,
     dialect: Dialect,
     depfile: &[u8],
@@ -160,14 +184,14 @@ pub fn record_depfile<T: Tree>(
     command: &[u8],
 ) -> Result<Recorded, EngineError>
     // By the files: the record, the stamps and the rule are done in this order, or it was refused, or given up on the way.
-    ensures recorded { T.is_honest → IfOk result (IsDepfileRecorded (ruled_by header.entry dialect) (T.files tree.old) (T.files tree.new) depfile.now target.now command.now) }
-    ensures refused { T.is_honest → IfErr result (IsDepfileRefused (ruled_by header.entry dialect) (T.files tree.old) (T.files tree.new) depfile.now target.now command.now) }
+    ensures recorded { T.is_honest → IfOk result (IsDepfileRecorded (ruled_by header.entry options.entry dialect) (T.files tree.old) (T.files tree.new) depfile.now target.now command.now) }
+    ensures refused { T.is_honest → IfErr result (IsDepfileRefused (ruled_by header.entry options.entry dialect) (T.files tree.old) (T.files tree.new) depfile.now target.now command.now) }
     ensures old_or_rule { T.is_honest → OnErr result
-        (IsOldOrRule header.entry (content (T.files tree.old) depfile.now) (content (T.files tree.new) depfile.now)) }
+        (IsOldOrRule (ruled_by header.entry options.entry dialect) (content (T.files tree.old) depfile.now) (content (T.files tree.new) depfile.now)) }
     // The names of the record are those of the prerequisites, and then those of the command's words.
-    ensures names { T.is_honest → OnOk result (NamesCommand header.entry dialect (T.files tree.old) (T.files tree.new) depfile.now target.now command.now) }
+    ensures names { T.is_honest → OnOk result (NamesCommand header.entry options.entry dialect (T.files tree.old) (T.files tree.new) depfile.now target.now command.now) }
     // By histories: each one that the files show goes on with this answer, and the files show the next one.
-    ensures follows { GoesOn T.Tree tree.old tree.new (FollowsDepfile (ruled_by header.entry dialect) depfile.now target.now command.now result) }
+    ensures follows { GoesOn T.Tree tree.old tree.new (FollowsDepfile (ruled_by header.entry options.entry dialect) depfile.now target.now command.now result) }
     // The device is to blame only where the tree counted a failure.
     ensures counted { Counted T.Tree tree.old tree.new (IsErrOf result EngineError.Device) }
     ensures passed { OnOk result (T.failures tree.new ≡ T.failures tree.old) }
@@ -181,7 +205,7 @@ pub fn record_depfile<T: Tree>(
         header,
         dialect,
         scans_command: true,
-        options: NO_OPTIONS,
+        options,
     };
     let ruled = prepare_rule(alloc, tree, conventions, depfile, target, command)?;
     write_record(alloc, tree, target, &ruled.draft.text)?;

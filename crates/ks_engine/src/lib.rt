@@ -26,7 +26,7 @@ pub use all_stamps::sync_all_stamps;
 pub use backdating::{BackdateScope, backdate_if_stale};
 pub use caches::Cache;
 pub use commands::{Command, Reply, run};
-pub use conventions::{Conventions, RecordOptions};
+pub use conventions::{Conventions, Elsewhere, RecordOptions};
 pub use costs::{Cost, Costs, borrow_record, read_record};
 pub use depfile::record_depfile;
 pub use error::EngineError;

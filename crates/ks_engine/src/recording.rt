@@ -9,8 +9,9 @@ ghost use Rattle.ks_tree.specs.Frames.{Counted, Reads};
 ghost use Rattle.ks_tree.specs.Files.{Files, SameButBoth, content};
 ghost use Rattle.ks_tree.specs.Paths.{auto_path, command_path, command_temporary};
 ghost use Rattle.ks_engine.specs.Refusals.{Answers, IsAborted};
+ghost use Rattle.ks_engine.specs.Places.{depfile_at, legal_place};
 ghost use Rattle.ks_engine.specs.Recording.{args, there, with_command};
-ghost use Rattle.ks_engine.specs.Recorded.{RecordPlan, drafted, recorded_at, usual_with, record_plan_under, with_own_lines, IsRecordPlanUnder, IsRecorded, IsRecordedUnder, IsRecordRefused, IsRecordRefusedUnder};
+ghost use Rattle.ks_engine.specs.Recorded.{RecordPlan, drafted, recorded_at, usual_with, record_plan_under, with_further_lines, IsRecordPlanUnder, IsRecorded, IsRecordedUnder, IsRecordRefused, IsRecordRefusedUnder};
 ghost use Rattle.ks_engine.specs.Follows.{GoesOn, FollowsRecord, FollowsRecordUnder};
 ghost use Rattle.ks_engine.specs.Caches.{are_placed, IsCacheOf, IsNoSource};
 ghost use Rattle.ks_engine.specs.Drafts.{IsDraft, IsPrepared, drafted_by};
@@ -20,8 +21,8 @@ use crate::caches::Cache;
 use crate::conventions::{Conventions, NO_OPTIONS, RecordOptions};
 use crate::sources::scan_all_by;
 use ks_fixdep::{
-    NamesBySource, Prerequisites, ScanRules, command_is_legal, listed_names, push_own_lines,
-    read_depfile_without, record_text,
+    NamesBySource, Prerequisites, ScanRules, command_is_legal, listed_names, placed_text,
+    push_elsewhere_lines, push_own_lines, read_depfile_without, record_text,
 };
 use ks_symbols::{Dialect, MAX_BYTES, Path, Seed, path_is_legal, target_is_legal};
 use ks_tree::{Tree, auto_path, command_path, command_temporary, replace};
@@ -80,24 +81,60 @@ fn read_there<T: Tree>(alloc: Global, tree: &mut T, path: &[u8]) -> Result<Vec<u
     }
 }
 
-/// Adds the lines that follow a record, where they are asked for. In Linux no name stands in them.
-fn add_own_lines(
+/// Refuses what can be no name of a place.
+fn check_elsewhere(options: RecordOptions<'_>) -> Result<(), EngineError>
+    ensures place { result ≡ legal_place options.entry }
+{
+    match options.elsewhere {
+        Some(place) if !path_is_legal(place.directory) || !path_is_legal(place.tree) => {
+            Err(EngineError::BadPath(0))
+        }
+        _ => Ok(()),
+    }
+}
+
+/// A dependency file that has to be there, with the paths that it has here.
+fn read_depfile_at<T: Tree>(
+    alloc: Global,
+    tree: &mut T,
+    options: RecordOptions<'_>,
+    path: &[u8],
+) -> Result<Vec<u8>, EngineError>
+    requires { IsTrue (is_path path.now) }
+    ensures reads { Reads T.Tree tree.old tree.new (IsErrOf result EngineError.Device) }
+    ensures passed { OnOk result (T.failures tree.new ≡ T.failures tree.old) }
+    ensures uncounted { IsErrOf result EngineError.OutOfMemory → T.failures tree.new ≡ T.failures tree.old }
+    ensures bytes { T.is_honest → Answers (depfile_at options.entry path.now (content (T.files tree.old) path.now)) (λ v. v.items) result }
+{
+    let text = read_there(alloc, tree, path)?;
+    match options.elsewhere {
+        Some(place) => Ok(placed_text(alloc, place.directory, &text)?),
+        None => Ok(text),
+    }
+}
+
+/// Adds the lines that follow a record, where they are asked for.
+fn add_further_lines(
     alloc: Global,
     conventions: Conventions<'_>,
     target: &[u8],
     found: &NamesBySource,
     text: &mut Vec<u8>,
 ) -> Result<(), AllocError>
-    ensures { OnOk result (text.new.items ≡ with_own_lines conventions.entry.options.adds_own_lines conventions.entry.dialect target.now (listed_of found.now) text.old.items) }
+    ensures { OnOk result (text.new.items ≡ with_further_lines conventions.entry target.now (listed_of found.now) text.old.items) }
 {
-    if !conventions.options.adds_own_lines {
+    let options = conventions.options;
+    if conventions.scans_command || !options.adds_own_lines && options.elsewhere.is_none() {
         return Ok(());
     }
-    let names = match conventions.dialect {
-        Dialect::Linux => Vec::new(alloc),
-        _ => listed_names(alloc, found)?,
+    let names = listed_names(alloc, found)?;
+    if options.adds_own_lines {
+        push_own_lines(text, conventions.dialect, target, &names)?;
+    }
+    let Some(place) = options.elsewhere else {
+        return Ok(());
     };
-    push_own_lines(text, conventions.dialect, target, &names)
+    push_elsewhere_lines(text, place.directory, place.tree, target, &names)
 }
 
 /// The command file that is to be written, before it is.
@@ -122,7 +159,7 @@ fn make_draft(
 {
     let numbered = Some(generation);
     let mut written = record_text(alloc, target, command, prerequisites, found, numbered)?;
-    add_own_lines(alloc, conventions, target, found, &mut written.text)?;
+    add_further_lines(alloc, conventions, target, found, &mut written.text)?;
     if written.text.len() > MAX_BYTES {
         return Err(EngineError::TooLarge);
     }
@@ -239,7 +276,8 @@ pub(crate) fn prepare<T: Tree>(
         ⊎ (record_plan_under conventions.entry (T.files tree.old) depfile.now target.now command.now ≡ Err e)) }
 {
     check_args(depfile, target, command)?;
-    let text = read_there(alloc, tree, depfile)?;
+    check_elsewhere(conventions.options)?;
+    let text = read_depfile_at(alloc, tree, conventions.options, depfile)?;
     let header = conventions.header;
     let prerequisites = read_depfile_without(alloc, Seed::new(tree.seed()), header, &text)?;
     cache.scan_by(ScanRules::for_target(conventions.dialect, target));
@@ -327,17 +365,17 @@ pub(crate) fn record_by<T: Tree>(
 pub fn record_object_with<T: Tree>(
     alloc: Global,
     tree: &mut T,
-    options: RecordOptions,
+    options: RecordOptions<'_>,
     dialect: Dialect,
     depfile: &[u8],
     target: &[u8],
     command: &[u8],
 ) -> Result<Recorded, EngineError>
     // By the files: the command file is written and all else is as before, or it was refused, or given up at the write.
-    ensures recorded { T.is_honest → IfOk result (IsRecordedUnder (usual_with options dialect) (T.files tree.old) (T.files tree.new) depfile.now target.now command.now) }
-    ensures refused { T.is_honest → IfErr result (IsRecordRefusedUnder (usual_with options dialect) (T.files tree.old) (T.files tree.new) depfile.now target.now command.now) }
+    ensures recorded { T.is_honest → IfOk result (IsRecordedUnder (usual_with options.entry dialect) (T.files tree.old) (T.files tree.new) depfile.now target.now command.now) }
+    ensures refused { T.is_honest → IfErr result (IsRecordRefusedUnder (usual_with options.entry dialect) (T.files tree.old) (T.files tree.new) depfile.now target.now command.now) }
     // By histories: each one that the files show goes on with this answer, and the files show the next one.
-    ensures follows { GoesOn T.Tree tree.old tree.new (FollowsRecordUnder (usual_with options dialect) depfile.now target.now command.now result) }
+    ensures follows { GoesOn T.Tree tree.old tree.new (FollowsRecordUnder (usual_with options.entry dialect) depfile.now target.now command.now result) }
     // The device is to blame only where the tree counted a failure.
     ensures counted { Counted T.Tree tree.old tree.new (IsErrOf result EngineError.Device) }
     ensures passed { OnOk result (T.failures tree.new ≡ T.failures tree.old) }

@@ -1,7 +1,7 @@
 //! Tables of what is asked of a tree, and of what is answered.
 use ks_engine::{
-    BuildState, ConfigTexts, EngineError, Recorded, Report, Verdict, outdated, record_depfile,
-    record_object, stale, sync,
+    BuildState, ConfigTexts, EngineError, RecordOptions, Recorded, Report, Verdict, outdated,
+    record_depfile, record_object, stale, sync,
 };
 use ks_fixdep::Header;
 use ks_symbols::{Dialect, Name};
@@ -21,6 +21,13 @@ pub(crate) enum Step<'a> {
     Put(&'a str, &'a str),
     Read(&'a str),
 }
+
+/// A record of a compiler that ran here, and nothing behind it.
+const PLAIN: RecordOptions<'static> = RecordOptions {
+    adds_own_lines: false,
+    before_sync: false,
+    elsewhere: None,
+};
 
 pub(crate) fn text(bytes: &[u8]) -> &str {
     str::from_utf8(bytes).unwrap_or("not text")
@@ -146,8 +153,10 @@ pub(crate) fn answer<T: Tree>(
             let header = Header::At(header.as_bytes());
             let (depfile, target) = (depfile.as_bytes(), target.as_bytes());
             let command = command.as_bytes();
-            let outcome = record_depfile(alloc, tree, header, dialect, depfile, target, command);
-            noted(alloc, outcome)
+            let recorded = record_depfile(
+                alloc, tree, PLAIN, header, dialect, depfile, target, command,
+            );
+            noted(alloc, recorded)
         }
         Step::Stale(target) => evaluated(alloc, tree, target),
         Step::Outdated(target, command) => compared(alloc, tree, target, command),

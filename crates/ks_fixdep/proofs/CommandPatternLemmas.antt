@@ -90,7 +90,7 @@ and_then-steps step from to e = search rules
 pub if-some : {A : Type 0} (b : Bool) (x y : A) → (if b then Some x else None) ≡ Some y → (b ≡ true) × (x ≡ y)
 if-some b x y e = search rules
 
-after-is : (prefix xs x : List ℕ) → following prefix xs ≡ Some x → xs ≡ prefix ++ x
+pub after-is : (prefix xs x : List ℕ) → following prefix xs ≡ Some x → xs ≡ prefix ++ x
 after-is prefix xs x e = search (rules, take-append-drop, bytes-same)
 
 before-is : (end xs x : List ℕ) → before end xs ≡ Some x → xs ≡ x ++ end

@@ -1,5 +1,5 @@
 -- What is written as one rule is read token by token.
-use Rattle.ks_fixdep.proofs.Prelude.{None, Some, refl, list_all-from_AllPass, prefix_len_passes, length-prefix_len, get_or-take, ◌≡◌, ℕ, ◌<◌, Bool, true, false, List, [], ◌∷◌, ◌++◌, map, drop, ◌∙◌, arith, append_assoc, length-append, length-take-le, flat_map, list_all, prefix_len, slice_split, cond-true, cond-false, and_from, and_parts, not-true, flat_map-append, list_all-append, list_all-map, common_steps, nat_tests, prefix_len-le-length, is_name, is_path, line_feed, tokens, is_separator, is_other, stamp_of, continued, is_token, RulesReadBack, FirstTokensAreTokens, rules}
+use Rattle.ks_fixdep.proofs.Prelude.{IfSome, IsTrue, None, Option, Some, refl, list_all-from_AllPass, prefix_len_passes, length-prefix_len, get_or-take, ◌≡◌, ℕ, ◌<◌, Bool, true, false, List, [], ◌∷◌, ◌++◌, map, drop, ◌∙◌, arith, append_assoc, length-append, length-take-le, flat_map, list_all, prefix_len, slice_split, cond-true, cond-false, and_from, and_parts, not-true, flat_map-append, list_all-append, list_all-map, common_steps, nat_tests, prefix_len-le-length, is_name, is_path, line_feed, tokens, is_separator, is_other, stamp_of, continued, is_token, RulesReadBack, FirstTokensAreTokens, rules}
 unfoldable use Rattle.ks_fixdep.specs.DependencyFile.{refusal_without, token_refusal}
 use Rattle.ks_fixdep.specs.DependencyFile.{is_target_token}
 use Rattle.ks_fixdep.specs.declared.dependency_file.Header.{Header}
@@ -27,9 +27,10 @@ path-token : (p : List ℕ) → is_path p ≡ true → is_token p ≡ true
 unfolding is_path
 path-token p legal = search (rules, and_from, and_parts, all-imp, other-of)
 
-stamp-token : (x : List ℕ) → is_name x ≡ true → is_token (stamp_of x) ≡ true
-unfolding is_name
-stamp-token x legal = search (rules, and_from, length-append, all-imp, other-of, and_parts)
+stamp-token : (tree : Option (List ℕ)) → IfSome tree (λ t. IsTrue (is_path t)) → (x : List ℕ) → is_name x ≡ true → is_token (stamp_of tree x) ≡ true
+unfolding is_name is_path
+stamp-token None tree x legal = search (rules, and_from, length-append, all-imp, other-of, and_parts)
+stamp-token (Some t) tree x legal = search (rules, and_from, length-append, list_all-append, all-imp, other-of, and_parts)
 
 -- ---- the rule
 
@@ -38,12 +39,12 @@ lines-read x [] token tokens_all = search (rules, read-next, tokens-nil)
 lines-read x (p ∷ ps) token tokens_all = search (rules, and_parts, append_assoc, read-next, tokens-separator, (lines-read p ps))
 
 pub rules_read_back : RulesReadBack
-rules_read_back target paths names token legal_paths legal_names =
+rules_read_back tree target paths names legal_tree token legal_paths legal_names =
     let listed = all-imp is_path is_token path-token paths legal_paths in
-    let stamps = list_all-map is_token stamp_of names ∙ all-imp is_name (λ x. is_token (stamp_of x)) stamp-token names legal_names in
-    let parts = flat_map-append continued paths (map stamp_of names) in
-    let all = lines-read target (paths ++ map stamp_of names) token (list_all-append is_token paths (map stamp_of names) ∙ and_from _ _ listed stamps) in
-    cc (append_assoc (flat_map continued paths) (flat_map continued (map stamp_of names)) line_feed)
+    let stamps = list_all-map is_token (stamp_of tree) names ∙ all-imp is_name (λ x. is_token (stamp_of tree x)) (stamp-token tree legal_tree) names legal_names in
+    let parts = flat_map-append continued paths (map (stamp_of tree) names) in
+    let all = lines-read target (paths ++ map (stamp_of tree) names) token (list_all-append is_token paths (map (stamp_of tree) names) ∙ and_from _ _ listed stamps) in
+    cc (append_assoc (flat_map continued paths) (flat_map continued (map (stamp_of tree) names)) line_feed)
 
 -- ---- the first token
 

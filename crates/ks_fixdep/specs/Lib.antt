@@ -15,6 +15,7 @@ pub mod DialectExamples
 pub mod WordScan
 pub mod Tokens
 pub mod DependencyFile
+pub mod Placed
 pub mod Progress
 pub mod CommandLines
 pub mod CommandLayout

@@ -17,7 +17,7 @@ mod writing;
 pub use borrowed::{BorrowedCommand, BorrowedDep, BorrowedName};
 use ks_symbols::{Name, Path};
 pub use laws::{command_examples, command_files_fit, command_texts_read_back};
-pub use own_lines::{own_lines_are_further, push_own_lines};
+pub use own_lines::{further_lines_are_read, push_elsewhere_lines, push_own_lines};
 pub(crate) use reading::own_record_in;
 pub use reading::{borrow_command, read_command};
 use std::alloc::AllocError;

@@ -14,6 +14,7 @@ mod object_names;
 mod partial_token;
 mod pending_macro_args;
 mod place_set;
+mod placed;
 mod prefix_finder;
 mod rule;
 mod runs;
@@ -29,7 +30,7 @@ pub use building::{build, build_from};
 pub use command_file::{
     BorrowedCommand, BorrowedDep, BorrowedName, CommandError, CommandFile, Dep, borrow_command,
     command_examples, command_files_fit, command_is_legal, command_texts_read_back,
-    own_lines_are_further, push_own_lines, read_command, write_command,
+    further_lines_are_read, push_elsewhere_lines, push_own_lines, read_command, write_command,
 };
 pub use dep_error::DepError;
 pub use dependency_file::{
@@ -44,6 +45,7 @@ pub use laws::{
 pub use listing::{RecordText, record_text};
 pub use name_iter::NameIter;
 pub use object_names::listed_names;
+pub use placed::placed_text;
 pub use rule::{rule_text, rules_read_back};
 pub use scan::{Found, names};
 pub use scanner::{Fed, Scanner};

@@ -1,7 +1,9 @@
 -- A record goes by the files at the paths that it reads.
-use Rattle.ks_parallel.proofs.Prelude.{◌≡◌, ◌≢◌, ◌⊎◌, inl, inr, ⊎_elim, ℕ, List, [], ◌∷◌, true, false, Option, Some, None, Result, Ok, Err, sym, ◌∙◌, ap, refl, subst, map, cases_Bool, both_ways, or_left, or_right, or_cases, bytes_eq-Decides, is_in, is_name, IsTrue, DepError, Role, ScanRules, rules_for, Conventions, Files, content, kept_or, auto_path, command_path, command_temporary, stamp_path, temporary, EngineError, and_then, args, there, listed_unless, scanned_all, record_plan_under, IsRecordedUnder, RuleLeaves, legal_names, RecordsGoByWhatTheyRead, RecordsWriteTwoPaths, DepfilesWriteTheirPaths, IsMadeStamp, is_stamp_of, rules}
+use Rattle.ks_parallel.proofs.Prelude.{◌≡◌, ◌≢◌, ◌⊎◌, inl, inr, ⊎_elim, ℕ, List, [], ◌∷◌, true, false, Option, Some, None, Result, Ok, Err, sym, ◌∙◌, ap, refl, subst, map, cases_Bool, both_ways, or_left, or_right, or_cases, bytes_eq-Decides, is_in, is_name, IsTrue, DepError, Role, ScanRules, rules_for, Conventions, Files, content, kept_or, auto_path, command_path, command_temporary, stamp_path, temporary, EngineError, and_then, args, listed_unless, scanned_all, record_plan_under, IsRecordedUnder, RuleLeaves, legal_names, RecordsGoByWhatTheyRead, RecordsWriteTwoPaths, DepfilesWriteTheirPaths, IsMadeStamp, is_stamp_of, rules}
 use Rattle.ks_engine.specs.declared.recording.Recorded.{Recorded}
+use Rattle.ks_engine.specs.Places.{depfile_at, legal_place}
 use Rattle.ks_engine.specs.Recorded.{recorded_at}
+use Rattle.ks_engine.proofs.DepfileLemmas.{placed_some}
 use Rattle.ks_engine.specs.Recording.{listed_without}
 use Rattle.ks_parallel.proofs.Stamping.{is_stamp}
 
@@ -17,10 +19,6 @@ then_same : {A B : Type 0} (step : Result A EngineError) (next after : A → Res
 then_same (Ok x) next after same = same x refl
 then_same (Err e) next after same = refl
 
-pub there_some : (d : List ℕ) (file : Option (List ℕ)) (text : List ℕ) → there d file ≡ Ok text → file ≡ Some text
-there_some d None text e = absurd cc
-there_some d (Some b) text e = search rules
-
 pub prerequisites_of : (refusal : Option DepError) (all ps : List (List ℕ × Role)) → listed_unless refusal all ≡ Ok ps → ps ≡ all
 prerequisites_of None all ps e = cc
 prerequisites_of (Some bad) all ps e = absurd cc
@@ -31,11 +29,13 @@ records_go_by_what_they_read by f g d t c same =
     let depfile : content g d ≡ content f d = search (rules, or_left, bytes_eq-Decides) in
     let auto : content g auto_path ≡ content f auto_path = search (rules, or_left, or_right, bytes_eq-Decides) in
     then_same (args d t c) _ _ (λ _ _.
-    rw (depfile, auto) (then_same (there d (content f d)) _ _ (λ text at.
+    then_same (legal_place by.options) _ _ (λ _ _.
+    rw (depfile, auto) (then_same (depfile_at by.options d (content f d)) _ _ (λ text at.
     then_same (listed_without by.header text) _ _ (λ ps is.
     then_same (recorded_at by.options.before_sync (content f auto_path)) _ _ (λ n _.
     let scans = same_scans (rules_for by.dialect t) f g ps in
-    search (rules, scans, or_right, (there_some d (content f d) text at), (prerequisites_of _ _ ps is)))))))
+    let was = placed_some by.options d (content f d) text at in
+    search (rules, scans, or_right, was.1, was.2, (prerequisites_of _ _ ps is))))))))
 
 pub records_write_two_paths : RecordsWriteTwoPaths
 records_write_two_paths conventions old new d t c (Ok answer) is = is.others

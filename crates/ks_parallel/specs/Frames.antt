@@ -2,29 +2,29 @@
 use Rattle.std.specs.Prelude.{◌≡◌, ◌≢◌, ◌⊎◌, ℕ, List, [], ◌∷◌, Option, Some, None, Result, true, map, IsTrue}
 use Rattle.ks_symbols.specs.Names.{is_in, is_name}
 use Rattle.ks_fixdep.specs.DependencyFile.{prerequisites_without}
-use Rattle.ks_fixdep.specs.declared.dependency_file.Header.{Header}
 use Rattle.ks_tree.specs.Files.{Files, content, SameButBoth}
 use Rattle.ks_tree.specs.Paths.{auto_path, command_path, command_temporary, stamp_path, temporary}
 use Rattle.ks_engine.specs.declared.conventions.Conventions.{Conventions}
 use Rattle.ks_engine.specs.declared.error.EngineError.{EngineError}
 use Rattle.ks_engine.specs.declared.recording.Recorded.{Recorded}
+use Rattle.ks_engine.specs.Places.{placed_by}
 use Rattle.ks_engine.specs.Recorded.{record_plan_under}
 use Rattle.ks_engine.specs.FileRuns.{LeavesDepfile, LeavesRecord}
 
 -- the prerequisites of a dependency file, where there is one, but for a header
-abbrev pub prerequisite_paths : Header → Option (List ℕ) → List (List ℕ)
-prerequisite_paths header None = []
-prerequisite_paths header (Some d) = map (λ p. p.0) (prerequisites_without header d)
+abbrev pub prerequisite_paths : Conventions → Option (List ℕ) → List (List ℕ)
+prerequisite_paths conventions None = []
+prerequisite_paths conventions (Some d) = map (λ p. p.0) (prerequisites_without conventions.header (placed_by conventions.options d))
 
 -- the dependency file, auto.conf and the prerequisites
-abbrev pub paths_read : Header → Files → List ℕ → List (List ℕ)
-paths_read header files depfile = depfile ∷ auto_path ∷ prerequisite_paths header (content files depfile)
+abbrev pub paths_read : Conventions → Files → List ℕ → List (List ℕ)
+paths_read conventions files depfile = depfile ∷ auto_path ∷ prerequisite_paths conventions (content files depfile)
 
 -- Files that are the same at these paths come to the same plan, or to the same refusal, however the sources are read.
 abbrev pub RecordsGoByWhatTheyRead : Type 0
 RecordsGoByWhatTheyRead =
     (conventions : Conventions) (files other : Files) (depfile target command : List ℕ)
-    → ((q : List ℕ) → is_in (paths_read conventions.header files depfile) q ≡ true → content other q ≡ content files q)
+    → ((q : List ℕ) → is_in (paths_read conventions files depfile) q ≡ true → content other q ≡ content files q)
     → record_plan_under conventions other depfile target command ≡ record_plan_under conventions files depfile target command
 
 -- A record, done or refused or given up, leaves each path but its command file and that one's temporary file.

@@ -39,5 +39,5 @@ IsOneStep (Diff config report_style) = ⊤
 IsOneStep (Status config) = ⊤
 IsOneStep (Fixdep depfile target command) = ⊤
 IsOneStep (Record depfile target command after options) = ⊤
-IsOneStep (Depfile header strict depfile target command) = ⊤
+IsOneStep (Depfile header strict elsewhere depfile target command) = ⊤
 IsOneStep _ = ⊥

@@ -38,7 +38,8 @@ pub use replies::{
 };
 pub use report_style::ReportStyle;
 pub use request::{
-    ConfigPaths, DepfileAfter, KeptPaths, OutputFormat, Request, Stamps, StrictPaths, Targets,
+    ConfigPaths, DepfileAfter, ElsewherePaths, KeptPaths, OutputFormat, RecordWords, Request,
+    Stamps, StrictPaths, Targets,
 };
 pub use script::{ScriptLine, read_script, script_syncs};
 pub use script_error::ScriptError;

@@ -1,6 +1,6 @@
 //! What the program can be asked to do.
 use crate::report_style::ReportStyle;
-use ks_engine::{BackdateScope, ConfigForm, RecordOptions};
+use ks_engine::{BackdateScope, ConfigForm};
 
 /// The objects that a question is about: those among the arguments, and after them those of a file, one a line.
 #[derive(Debug, Drop)]
@@ -33,6 +33,25 @@ pub struct StrictPaths {
     pub alias: String,
     /// The compiler, and what runs it.
     pub tools: Vec<String>,
+}
+
+/// A compiler that ran in another directory than that of the tree.
+#[derive(Debug, Drop)]
+pub struct ElsewherePaths {
+    /// That directory, from the root.
+    pub directory: String,
+    /// The tree by the name that the build has for it there.
+    pub tree: String,
+}
+
+/// How a build asks for a record.
+#[derive(Debug, Drop)]
+pub struct RecordWords {
+    /// Whether lines follow for a make that looks for the command under `cmd_`, and in other projects than Linux for stamps of its own.
+    pub adds_own_lines: bool,
+    /// Whether an object has generation 0 where there is no auto.conf yet.
+    pub before_sync: bool,
+    pub elsewhere: Option<ElsewherePaths>,
 }
 
 /// How the answers about objects are printed.
@@ -103,7 +122,7 @@ pub enum Request {
         target: String,
         command: String,
         after: DepfileAfter,
-        options: RecordOptions,
+        options: RecordWords,
     },
     /// Record an object for a build that goes by its dependency file, which gets the stamps of the names that were found in the
     /// place of the header. The header is named by the end of its path, or it is the usual one. Where the record is strict, an object is
@@ -111,6 +130,7 @@ pub enum Request {
     Depfile {
         header: Option<String>,
         strict: Option<StrictPaths>,
+        elsewhere: Option<ElsewherePaths>,
         depfile: String,
         target: String,
         command: String,

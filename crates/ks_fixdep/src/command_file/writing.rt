@@ -21,7 +21,7 @@ pub(super) fn push_line(out: &mut Vec<u8>, parts: &[&[u8]]) -> Result<(), AllocE
 }
 
 /// Writes lines.
-fn push_lines(out: &mut Vec<u8>, lines: &[&[&[u8]]]) -> Result<(), AllocError>
+pub(super) fn push_lines(out: &mut Vec<u8>, lines: &[&[&[u8]]]) -> Result<(), AllocError>
     ensures ok { OnOk result (out.new.items ≡ out.old.items ++ flat_map (λ l. ended (joined l.now)) lines.now) }
     ensures extends { Extends out.old.items out.new.items }
 {

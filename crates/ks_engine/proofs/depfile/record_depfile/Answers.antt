@@ -59,7 +59,7 @@ returns-clause-recorded g c = λ honest.
     }
 
 pub returns-clause-names : goal.returns-clause-names
-returns-clause-names g c = λ honest. names_command _ _ _ _ _ _ _ _ (returns-clause-recorded g c honest)
+returns-clause-names g c = λ honest. names_command _ _ _ _ _ _ _ _ _ (returns-clause-recorded g c honest)
 
 pub returns-clause-follows : goal.returns-clause-follows
 returns-clause-follows g c = λ honest h shows.

@@ -1,5 +1,5 @@
 use Rattle.ks_engine.proofs.Prelude.{names_of, lt-ltb, le-ltb, cond-true, cond-false, arith, length-map, record_of, names_by, numbered, command_text, rules}
-use Rattle.ks_engine.specs.Recorded.{with_own_lines}
+use Rattle.ks_engine.specs.Recorded.{with_further_lines}
 use Rattle.ks_engine.proofs.LowerLaws.{names_of_record}
 use Rattle.ks_engine.proofs.recording.make_draft.Goals as goal
 
@@ -15,7 +15,7 @@ returns-clause-drafted c =
         file = file;
         generation = c.args.generation;
         names = names_of found;
-        text = with_own_lines c.args.conventions.options.adds_own_lines c.args.conventions.dialect c.args.target.now (names_of found) (command_text file);
+        text = with_further_lines c.args.conventions c.args.target.now (names_of found) (command_text file);
       },
       search (rules, arith, cond-false, le-ltb),
       search (rules, arith),

@@ -5,15 +5,4 @@ pub loop-name-preserved : goal.loop-name-preserved
 loop-name-preserved c =
     let more = take_more c.args.names.now c.loop-name.name-index c.name-item.result c.loop-name-test.true in
     let is = c.name-item.is in
-    simp (
-      c.in_ok-extend_from_slice-2.ensures.items,
-      c.in_ok-extend_from_slice.ensures.items,
-      c.as_bytes.ensures.value,
-      c.loop-name.invariant,
-      more,
-      sym is,
-      map-append,
-      flat_map-append,
-      append-nil,
-      append_assoc,
-    )
+    simp (c.in_ok-push_stamp.ensures, c.as_bytes.ensures.value, c.loop-name.invariant, more, sym is, map-append, flat_map-append, append-nil, append_assoc)

@@ -1,0 +1,12 @@
+use Rattle.ks_fixdep.proofs.Prelude.{append_assoc, refl}
+use Rattle.ks_fixdep.proofs.rule.push_stamp_in.Goals as goal
+
+pub returns : goal.returns
+returns c =
+    simp (
+      c.in_ok-extend_from_slice-4.ensures.items,
+      c.in_ok-extend_from_slice-3.ensures.items,
+      c.in_ok-extend_from_slice-2.ensures.items,
+      c.in_ok-extend_from_slice.ensures.items,
+      append_assoc,
+    ) refl

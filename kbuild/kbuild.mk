@@ -15,11 +15,13 @@ confstamp-prefix = $(if $(findstring savedcmd_,$(value cmd-check)),,cmd_)
 # From Linux 6.13 on make runs in the directory of an external module, and the tree is elsewhere. Then an object is recorded by its
 # whole path, from the tree.
 confstamp-elsewhere = $(filter-out . $(CURDIR),$(objtree))
+confstamp-tree = $(if $(confstamp-elsewhere),$(confstamp-elsewhere)/)
 confstamp-named = $(if $(confstamp-elsewhere),$(abspath $(1)),$(1))
+confstamp-from = $(if $(confstamp-elsewhere),$(if $(filter /%,$@),,$(CURDIR)/))
 
 # With CONFSTAMP_VERIFY each record is compared with the project's own fixdep, and each synchronisation with its own conf. In a
 # tree whose version was not tried, so it is until a make of all has ended well.
-confstamp-verified = $(if $(confstamp-elsewhere),$(confstamp-elsewhere)/)include/config/confstamp.verified-all
+confstamp-verified = $(confstamp-tree)include/config/confstamp.verified-all
 ifeq ($(CONFSTAMP_VERIFY):$(confstamp-untried)$(wildcard $(confstamp-verified)),:yes)
 export CONFSTAMP_VERIFY := first
 endif
@@ -34,15 +36,17 @@ confstamp-record = $(confstamp-begin)confstamp_fixdep() { $(if $(confstamp-by-ho
 	"$$2" "$$3" "$$4" $(confstamp-prefix) && $(confstamp-theirs) || \
 	$(if $(confstamp-verifies),{ [ $$? != 3 ] || exit 1; false; } ||) "$$@"; }; \
 	confstamp_fixdep
-confstamp-by-hook = $(confstamp-verifies)$(confstamp-elsewhere)$(and $(confstamp-prefix),$(CONFIG_TRIM_UNUSED_KSYMS))
+confstamp-by-hook = $(confstamp-verifies)$(and $(confstamp-prefix),$(CONFIG_TRIM_UNUSED_KSYMS))
 confstamp-hook = $(CONFSTAMP_KBUILD)/fixdep $(confstamp-dialect) $(if $(confstamp-in-place),--in-place) \
 	$(if $(confstamp-elsewhere),--tree $(objtree)) \
 	$(if $(confstamp-verifies),--verify $(or $(objtree),.)/$(or $(confstamp-fixdep),scripts/basic/fixdep))
-confstamp-directly = { $(CONFSTAMP) $(confstamp-dialect) record $(if $(confstamp-dialect),--cmd,--remove-depfile $(if \
-	$(confstamp-prefix),--cmd)) $(confstamp-early) -- "$$2" "$$3" "$$4" > /dev/null 2>&1 $(confstamp-and-then); }
+confstamp-directly = { $(CONFSTAMP) $(if $(confstamp-elsewhere),-C $(objtree)) $(confstamp-dialect) record $(if \
+	$(confstamp-dialect),--cmd,--remove-depfile $(if $(confstamp-prefix),--cmd)) $(confstamp-early) $(if \
+	$(confstamp-elsewhere),--in $(CURDIR) --tree $(objtree)) -- \
+	$(confstamp-from)"$$2" $(confstamp-from)"$$3" "$$4" > /dev/null 2>&1 $(confstamp-and-then); }
 
 # Where there is no auto.conf yet, as for the first host programs, a record has the number 0.
-confstamp-early = $(if $(wildcard include/config/auto.conf),,--before-sync)
+confstamp-early = $(if $(wildcard $(confstamp-tree)include/config/auto.conf),,--before-sync)
 
 # The makefiles of U-Boot and BusyBox write the command file aside, and move it to its place behind the call of fixdep; those of Xen don't.
 # The sources are scanned for the project's own patterns. Xen's are those of Linux, U-Boot has more, and Xen's conf is as old as U-Boot's.
@@ -89,7 +93,7 @@ confstamp-begin = $(if $(confstamp-only-asked),,$(if $(filter-out $(CONFSTAMP_UN
 confstamp-command-file = $(@D)/.$(@F).cmd
 confstamp-module = $(if $(confstamp-elsewhere),$(CURDIR),$(KBUILD_EXTMOD))
 confstamp-records = $(if $(confstamp-outside),$(if $(confstamp-elsewhere),.,$(KBUILD_EXTMOD))/.confstamp.records,$(confstamp-of-tree))
-confstamp-of-tree = $(if $(confstamp-elsewhere),$(confstamp-elsewhere)/)include/config/confstamp.records
+confstamp-of-tree = $(confstamp-tree)include/config/confstamp.records
 confstamp-outside = $(if $(filter /% ../%,$(confstamp-target)),$(filter-out $(realpath $(or $(objtree),.))/%,$(realpath $(@D))/))
 confstamp-target = $(call confstamp-named,$@)
 
@@ -203,8 +207,8 @@ endef
 
 # The tree's numbers may have gone on since an external module's objects were recorded. So these are asked about as make begins. Where
 # the tree is another user's, nothing is added to its list for a directory of it.
-confstamp-mark-due = $(if $(confstamp-only-asked),,$(if $(shell $(if $(confstamp-elsewhere),cd $(objtree) &&) $(CONFSTAMP_KBUILD)/mark \
-	$(confstamp-module) || echo failed),$(error stale objects could not be marked)))
+confstamp-mark-due = $(if $(confstamp-only-asked),,$(if $(filter done,$(shell $(if $(confstamp-elsewhere),cd $(objtree) &&) \
+	$(CONFSTAMP_KBUILD)/mark $(confstamp-module) && echo done)),,$(error stale objects could not be marked)))
 ifneq ($(KBUILD_EXTMOD),$(CONFSTAMP_MARKED))
 export CONFSTAMP_MARKED := $(KBUILD_EXTMOD)
 export CONFSTAMP_UNLISTED := $(if $(KBUILD_EXTMOD),$(shell [ -w $(confstamp-of-tree) ] || echo $(confstamp-of-tree)))

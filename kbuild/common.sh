@@ -34,7 +34,7 @@ kept_header=include/config/confstamp.autoconf
 verified=include/config/confstamp.verified
 mark='# Synchronised by the hooks of confstamp'
 
-# The program: the one of CONFSTAMP, or that was installed with the hooks, or the one in PATH.
+# The program: that of CONFSTAMP, or that was installed with the hooks, or that in PATH.
 confstamp=${CONFSTAMP:-$here/../../../bin/confstamp}
 [ -n "${CONFSTAMP:-}" ] || [ -x "$confstamp" ] || confstamp=confstamp
 
@@ -47,8 +47,7 @@ refuse() {
     exit 2
 }
 
-# use_dialect DIALECT: the project of the tree. BusyBox's tool has fixed paths for .config and for the list of the Kconfig
-# files that it has read.
+# use_dialect DIALECT: the project of the tree. BusyBox's tool has fixed paths for .config and for the list of the Kconfig files.
 use_dialect() {
     dialect=$1
     config=${KCONFIG_CONFIG:-.config}
@@ -80,8 +79,7 @@ need_program() {
     command -v "$confstamp" > /dev/null || refuse "$confstamp is missing: install it again, or take the hooks out (install-hooks -R)"
 }
 
-# $tmpdir: a directory that goes when the hook ends. A TMPDIR that the program can't name, or that can't be written, is left aside, as the
-# compiler does.
+# $tmpdir goes when the hook ends. A TMPDIR that the program can't name, or that can't be written, is left aside, as the compiler does.
 make_work_directory() {
     need_program
     case ${TMPDIR:-} in
@@ -93,8 +91,8 @@ make_work_directory() {
     trap 'exit 2' HUP INT TERM
 }
 
-# find_there WORD..: find. What is gone meanwhile, as beside a make, is no failure, and a directory that may not be entered, such as
-# lost+found, is none either: make comes to no file there. All else is reported, and has status 1.
+# find_there WORD..: find. What is gone meanwhile, as beside a make, is no failure, nor is a directory that may not be entered, such as
+# lost+found: make comes to no file there. All else is reported, and has status 1.
 find_there() {
     ended=0
     { complaints=$(find "$@" 2>&1 >&3) || ended=$?; } 3>&1
@@ -137,8 +135,7 @@ directories_of() {
     awk 'BEGIN { print "." } { while (sub(/\/[^\/]*$/, "") && $0 != "" && !known[$0]++) print }' "$1"
 }
 
-# look_through USAGE DIR..: begins a hook that is asked about directories. What was recorded there is in `targets`. If that is nothing,
-# the hook ends.
+# look_through USAGE DIR..: begins a hook that is asked about directories: `targets` is what was recorded there. If nothing was, it ends.
 look_through() {
     directories_only "$@"
     shift
@@ -155,7 +152,7 @@ numbers_here() {
     echo "$(cat "$numbers_name") $(pwd -P)"
 }
 
-# has_other_numbers DIR: do the records of the external module there have other numbers than those of this tree? Then they can't be compared.
+# has_other_numbers DIR: do the records of the external module there have other numbers than this tree, so that they can't be compared?
 has_other_numbers() {
     case $(cd "$1" && pwd -P)/ in
     "$(pwd -P)"/*) return 1 ;;
@@ -164,7 +161,7 @@ has_other_numbers() {
 }
 
 # recorded DIR..: writes the recorded objects that exist to `targets`, the others to `answers`. Objects that were never recorded, or whose
-# command file was emptied, are targets too, except hidden ones, which are steps of the link of vmlinux, and which make doesn't record.
+# command file was emptied, are targets too, except hidden ones: steps of the link of vmlinux, which make doesn't record.
 recorded() {
     "$here/objects" "$@" > "$tmpdir/recorded"
     for directory; do
@@ -186,16 +183,14 @@ recorded() {
     done >> "$tmpdir/targets"
 }
 
-# find_sources: where the sources are, in `sources`. Whoever isn't called by make has a link `source` in a build directory of its
-# own, and in one of BusyBox its makefile.
+# find_sources: where the `sources` are. Whoever isn't called by make has a link `source` in a build directory, and in BusyBox its makefile.
 find_sources() {
     sources=${srctree:-.}
     [ "$dialect" = busybox ] || [ -e "$sources/Kconfig" ] || [ ! -e source/Kconfig ] || sources=source
     [ "$dialect" != busybox ] || [ -e "$sources/Config.in" ] || sources=$(sed -n 's/^KERNELSRC *:= *//p' Makefile)
 }
 
-# kconfigs: the Kconfig files that the project's tool has read, where they stand. Kbuild takes no path with a blank. A file here comes
-# before the one of the sources.
+# kconfigs: the Kconfig files that the project's tool has read, where they stand: one here comes before the one of the sources.
 kconfigs() {
     find_sources
     awk -v sources="$sources" '
@@ -205,10 +200,9 @@ kconfigs() {
     ' "$read_kconfigs"
 }
 
-# ask_conf: runs the project's own conf on a copy of .config as it is now; a symbol that is new gets its default. It runs in a directory
-# of its own, where links stand for the files that are here, so nothing is written here. That directory is `asked`, with the .config that
-# conf wrote, and the auto.conf and include/autoconf.h that `confstamp --written` takes; of BusyBox the former is its .config. The
-# environment is the one that conf had from make. Where it fails $tmpdir/messages says why.
+# ask_conf: runs the project's own conf on a copy of .config; a new symbol gets its default. `asked` is the directory, in which links stand
+# for the files that are here, so nothing is written here. It has the .config that conf wrote, and the auto.conf (in BusyBox that .config)
+# and include/autoconf.h for `confstamp --written`. The environment is that which conf had from make. Why it fails is in $tmpdir/messages.
 ask_conf() {
     here_now=$(pwd -P)
     asked=$tmpdir/conf
@@ -237,17 +231,15 @@ ask_conf() {
     ) > "$tmpdir/messages" 2>&1 < /dev/null
 }
 
-# can_tell_declared: are the names known here that the project's Kconfig files declare? `declared` has them. Of a file that can't be read
-# nobody knows them.
+# can_tell_declared: are the names known here that the project's Kconfig files declare, those in `declared`? Not if one can't be read.
 can_tell_declared() {
     [ -e "$read_kconfigs" ] && kconfigs > "$tmpdir/kconfigs" 2> "$tmpdir/messages" &&
         each sed -nE 's/^[[:blank:]]*(menu)?config[[:blank:]]+([A-Za-z0-9_]+).*/\2/p' < "$tmpdir/kconfigs" > "$tmpdir/declared" \
             2> "$tmpdir/messages" && [ -s "$tmpdir/declared" ]
 }
 
-# Did the hooks make the last synchronisation? Linux's own tool writes auto.conf.cmd first, without the mark, and then
-# empties stamps; auto.conf comes last. BusyBox's own tools leave auto.conf as it was, but their split-include empties each header
-# in include/config that is no symbol's. Where the hooks call it they write theirs anew.
+# Did the hooks make the last synchronisation? Linux's own tool writes auto.conf.cmd first, without the mark, and auto.conf last. BusyBox's
+# own tools leave auto.conf, but their split-include empties each header in include/config that is no symbol's.
 synchronised() {
     case $dialect:$(grep -hsx -e '#generation .*' -e "$mark" "$auto" "$auto.cmd") in
     :'#generation '*"$mark") ;;
@@ -257,8 +249,8 @@ synchronised() {
     esac
 }
 
-# patiently MESSAGES ARG..: runs the program, with its standard error in MESSAGES. If another confstamp is at work in this directory
-# (status 75), it waits: for a second, and then, as it reports, for a hundred.
+# patiently MESSAGES ARG..: runs the program, with its standard error in MESSAGES. Where another confstamp is at work (status 75) it waits
+# for a second, and then, as it reports, for a hundred.
 patiently() {
     messages=$1
     shift
@@ -272,17 +264,15 @@ patiently() {
     return "$status"
 }
 
-# Of standard input, one a line: a time before all others, for each file that is there. It is second 1, since 0 says to some
-# tools that a file isn't there.
+# Of standard input, one a line: a time before all others. It is second 1, since 0 says to some tools that a file isn't there.
 age_files() {
     each touch -c -d @1
 }
 
 # mark_due DIRECTORY [--unrecorded]: each object of DIRECTORY/targets that is stale by its record is due, and with --unrecorded also what is
-# refused, or has no number. `confstamp mark` makes the stamp of the symbol the saved command, so make compiles the object whatever its
-# mtime, and V=2 says why. The next record has no mark. `due` is how many are. A record of another make may come between two parts of
-# the list. Where a name has bytes that the program refuses, and perhaps can't name, the command file is removed. Status 1: it isn't
-# known, or the system fails.
+# refused, or has no number. `due` is how many. The stamp of the symbol becomes the saved command, until the next record, so make compiles
+# the object whatever its mtime. A record of another make may come between two parts of the list. Where a name has bytes that the program
+# refuses, the command file is removed. Status 1: it isn't known, or the system fails.
 mark_due() {
     due=0
     : > "$1/refused"
@@ -306,9 +296,9 @@ still_theirs() {
     [ ! -O / ] || [ -O "$1" ] || to_commands "$tmpdir/targets" | each chown "$(stat -c %u:%g "$1")" 2> "$tmpdir/messages" || :
 }
 
-# age_to_come DIRECTORY RECORDED: a product with a future mtime would look newer than what make writes from now on. So what make
-# links or packs is backdated. Such products stand beside what was recorded or above it, and have a command file. BusyBox itself
-# has none. A directory that may not be listed, as one above a module's, is passed over.
+# age_to_come DIRECTORY RECORDED: what make links or packs, and has a future mtime, would look newer than what make writes from now on, so it
+# is backdated. It stands beside what was recorded or above it, and has a command file, but for BusyBox itself. A directory that may not be
+# listed, as one above a module's, is passed over.
 age_to_come() {
     : > "$1/now"
     tools_to_come "$1"
@@ -327,9 +317,8 @@ age_to_come() {
     [ ! -e "$1/ahead" ] || bring_to_now "$1"
 }
 
-# tools_to_come DIRECTORY: a tool that has a makefile of its own, as Linux's objtool, is made of objects that nobody records. As long as
-# one has a future mtime each make links the tool anew, and compiles what depends on it. So such an object gets the time of its
-# command file, which was written behind it, or that of the tool.
+# tools_to_come DIRECTORY: a tool with a makefile of its own, as Linux's objtool, is made of objects that nobody records. While one has a
+# future mtime each make links the tool anew, and compiles what depends on it. So it gets the time of its command file, or of the tool.
 tools_to_come() {
     for tool in tools/objtool/objtool tools/bpf/resolve_btfids/resolve_btfids; do
         [ -f "$tool" ] || continue
@@ -342,9 +331,9 @@ tools_to_come() {
     done
 }
 
-# bring_to_now DIRECTORY: an object of DIRECTORY/ahead is fresh, but make may be about to write a file that it is made of, such as
-# the packed kernel of the boot code. So it gets the present time. Where such a file has a future mtime as well make would compile
-# the object each time until then, so it keeps its own.
+# bring_to_now DIRECTORY: an object of DIRECTORY/ahead is fresh, but make may be about to write a file that it is made of, such as the packed
+# kernel of the boot code, so it gets the present time. Where such a file has a future mtime as well it keeps its own: else make would
+# compile it each time until then.
 bring_to_now() {
     to_commands "$1/ahead" | each awk '
         /^source_[^ ]* := / { print $3, FILENAME }
@@ -369,8 +358,7 @@ plain_path='
     }
 '
 
-# listing WORD..: of the files that find WORD.. finds lines `MTIME CTIME PATH`, to the nanosecond; with_times: of those of a list. What is gone
-# meanwhile has none.
+# listing WORD..: of the files that find WORD.. finds lines `MTIME CTIME PATH`, to the nanosecond; with_times: of those of a list that exist.
 listing() {
     find "$@" -print | with_times
 }
@@ -390,8 +378,8 @@ leave_witness() {
         touch -r "$clock_ref.now" "$clock_ref.tmp" && mv -f "$clock_ref.tmp" "$clock_ref" && rm "$clock_ref.now"
 }
 
-# What the first difference is between .config and the configuration that was synchronised last; nothing where they say the
-# same. That is known at once where the last synchronisation was one by the hook, and the text is the same.
+# The first difference of .config to the configuration that was synchronised last; nothing where they say the same, which is known at once
+# where the text is that of the hook's last synchronisation.
 difference_of_config() {
     if ! synchronised; then
         echo 'nothing was synchronised yet'
@@ -413,8 +401,8 @@ by_count() {
     awk '{ count[$1]++ } END { for (word in count) printf "%7d %s\n", count[word], word }' | sort -k1,1nr -k2
 }
 
-# count_answers ANSWERS [WANTED]: prints how many objects are in which state. Status: 0 all are fresh, 1 some are stale, 2 some are
-# refused, nothing was answered, or less than was wanted.
+# count_answers ANSWERS [WANTED]: prints how many objects are in which state. Status: 0 all are fresh, 1 some are stale, 2 some are refused,
+# or fewer were answered than was wanted.
 count_answers() {
     awk -v wanted="${2:-1}" '
         !/^ / { answers++; count[$2]++ }
@@ -425,8 +413,7 @@ count_answers() {
     ' "$1"
 }
 
-# by_directory: of answers a table of the directories with stale objects: how many are stale, of how many, and the three symbols that
-# most of them are stale by. The directory with the most comes first.
+# by_directory: of answers a table of the directories with stale objects, the most first: how many, of how many, by which three symbols most.
 by_directory() {
     awk '
         !/^ / {
@@ -448,10 +435,10 @@ by_directory() {
     '
 }
 
-# judge_builds: of the answers about `targets` those that the configuration changes by the lines `obj-$(CONFIG_X) += x.o` of makefiles.
-# A stale object is `left` if none builds it by .config, and a fresh one `stale X=m` or `stale X=y` if it is built in by one of .config
-# and the synchronised configuration, and part of a module by the other. A line whose symbol isn't plain counts as y, and so does a
-# directory, or an object, that no line names, and an external module, whose symbols may be words of make. ask_conf comes before.
+# judge_builds: of the answers about `targets` those that the configuration changes by the lines `obj-$(CONFIG_X) += x.o` of makefiles. A
+# stale object is `left` if none builds it by .config, and a fresh one `stale X=m` or `stale X=y` if one of .config and the synchronised
+# configuration has it built in, and the other in a module. What no line names, or one whose symbol isn't plain, counts as y, and so does an
+# external module, whose symbols may be words of make. ask_conf comes before.
 judge_builds() {
     makefiles=$(directories_of "$tmpdir/targets" | sed 's,^\./,,; /^\.\./d; s,$,/Kbuild,p; s,Kbuild$,Makefile,' |
         while read -r makefile; do [ ! -f "$sources/$makefile" ] || echo "$sources/$makefile"; done)
@@ -509,11 +496,10 @@ judge_builds() {
     ' "$tmpdir/values" $makefiles "$tmpdir/answers"
 }
 
-# list_recorded LIST ASIDE [FOUND]: what a list of records names, each once: `targets` has the name that its last record has, since
-# `make M=DIR` may name an object of this tree by its whole path; `recorded` has its path in the tree. A list with most lines several times
-# gets each once, and so it does with FOUND in front of it, by ASIDE.new; what another make adds to the old one meanwhile is added to the
-# new one. In a file system without hard links a long list stays. make writes into it, so it belongs to the owner of the directory, also
-# after a make of root.
+# list_recorded LIST ASIDE [FOUND]: what a list of records names, each once: `targets` has the name of its last record, which for an object
+# of this tree may be its whole path, by `make M=DIR`; `recorded` has its path in the tree. A list with most lines several times gets each
+# once, and with FOUND in front of it, by ASIDE.new; what another make adds to the old one meanwhile is added to it. Without hard links a
+# long list stays. It belongs to the owner of the directory, also after a make of root, since make writes into it.
 list_recorded() {
     [ -e "$1" ] || : > "$1"
     awk -v tmpdir="$tmpdir" -v tree="$PWD/" '

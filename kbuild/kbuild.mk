@@ -1,7 +1,6 @@
 # SPDX-License-Identifier: Apache-2.0 OR MIT
-# The part of confstamp's hooks that make reads. kbuild/install-hooks puts the lines that include it into a kernel tree, and
-# each of these names in one place of the tree's own makefiles. Where this file isn't found the names are empty,
-# and the kernel's own tools do the work.
+# The part of confstamp's hooks that make reads. The lines that kbuild/install-hooks puts into a tree include it, and put each of these names
+# in one place of the tree's own makefiles. Where this file isn't found the names are empty, and the kernel's own tools do the work.
 
 # The program that was installed with the hooks, or the one in PATH.
 ifndef CONFSTAMP
@@ -19,19 +18,18 @@ confstamp-tree = $(if $(confstamp-elsewhere),$(confstamp-elsewhere)/)
 confstamp-named = $(if $(confstamp-elsewhere),$(abspath $(1)),$(1))
 confstamp-from = $(if $(confstamp-elsewhere),$(if $(filter /%,$@),,$(CURDIR)/))
 
-# With CONFSTAMP_VERIFY each record is compared with the project's own fixdep, and each synchronisation with its own conf. In a
-# tree whose version was not tried, so it is until a make of all has ended well.
+# With CONFSTAMP_VERIFY each record is compared with the project's own fixdep, and each synchronisation with its own conf. In a tree whose
+# version was not tried, so it is until a make of all has ended well.
 confstamp-verified = $(confstamp-tree)include/config/confstamp.verified-all
 ifeq ($(CONFSTAMP_VERIFY):$(confstamp-untried)$(wildcard $(confstamp-verified)),:yes)
 export CONFSTAMP_VERIFY := first
 endif
 confstamp-verifies = $(filter-out 0 no,$(CONFSTAMP_VERIFY))
 
-# In front of the kernel's own fixdep stands a function of the shell, so the arguments of fixdep are its own, and the command's text
-# stands once. fixdep runs only where what stands before it has failed. The program comes first, since a shell for each object
-# costs more than the record; it removes the dependency file itself, and the recipe ends there, without the process by which Kbuild
-# would. Of the versions with cmd_T autoksyms.h has to be left out of the dependency file before the record, where it is in use; the
-# hook does that. Where the hook says that fixdep has found another name, with status 3, the recipe ends.
+# In front of the kernel's own fixdep stands a function of the shell, so its arguments are those of fixdep, which runs only where what stands
+# before it has failed. The program comes first, since a shell for each object costs more than the record; it removes the dependency file
+# itself, and the recipe ends there. With cmd_T autoksyms.h has to be left out of the dependency file, where it is in use; the hook does that.
+# Where the hook says that fixdep has found another name, with status 3, the recipe ends.
 confstamp-record = $(confstamp-begin)confstamp_fixdep() { $(if $(confstamp-by-hook),,$(confstamp-directly) ||) $(confstamp-hook) \
 	"$$2" "$$3" "$$4" $(confstamp-prefix) && $(confstamp-theirs) || \
 	$(if $(confstamp-verifies),{ [ $$? != 3 ] || exit 1; false; } ||) "$$@"; }; \
@@ -49,7 +47,6 @@ confstamp-directly = { $(CONFSTAMP) $(if $(confstamp-elsewhere),-C $(objtree)) $
 confstamp-early = $(if $(wildcard $(confstamp-tree)include/config/auto.conf),,--before-sync)
 
 # The makefiles of U-Boot and BusyBox write the command file aside, and move it to its place behind the call of fixdep; those of Xen don't.
-# The sources are scanned for the project's own patterns. Xen's are those of Linux, U-Boot has more, and Xen's conf is as old as U-Boot's.
 confstamp-and-then = $(if $(confstamp-dialect),$(if $(confstamp-in-place),,&& cat $(confstamp-command-file)),&& $(confstamp-theirs) && exit)
 
 # Linux's fixdep writes into the command file, so in a user's tree it is that user's also after a make of root. A record is a new file.
@@ -60,9 +57,9 @@ confstamp-theirs = { [ ! -O / ] || [ -O $(@D) ] || chown "$$(stat -c %u:%g $(@D)
 confstamp-keeps = touch -c -d @1 include/config/auto.conf; :
 confstamp-is-old = $(if $(CONFSTAMP_ASKS),,$(if $(filter u-boot,$(confstamp-dialect)),$(shell $(confstamp-keeps))))
 
-# As make makes the recipe, before the compiler or linker runs: the command file is emptied, so that make makes once more what is
-# made and not recorded, as where it is killed in between. make itself writes, since a process for each target would cost more. Each
-# recipe with a command file expands make-cmd; BusyBox's has a `#`, so it is defined as a whole.
+# Before the compiler or linker runs the command file is emptied, so that make makes once more what is made and not recorded, as where it is
+# killed in between. make itself writes, as it expands make-cmd, since a process for each target would cost more. BusyBox's make-cmd has a
+# `#`, so it is defined as a whole.
 confstamp-emptied = $(if $(confstamp-only-asked),,$(if $(wildcard $(confstamp-command-file)),$(call \
 	confstamp-empty,$(confstamp-command-file)))$(if $(filter %.ko,$@),$(confstamp-first-line)))
 define confstamp-make-cmd
@@ -72,9 +69,8 @@ endef
 endef
 $(eval $(confstamp-make-cmd))
 
-# Later lines of a recipe may change what the first one has recorded: genksyms appends to the command file, and pahole rewrites a
-# module. From the first line to the last another file stands beside that. Where it was left, as by a make that was killed, the target
-# is made once more.
+# Later lines of a recipe may change what the first one has recorded: genksyms appends to the command file, and pahole rewrites a module. Until
+# the last one has run another file stands beside that. Where it was left, as by a make that was killed, the target is made once more.
 confstamp-late = $(if $(filter %.ko,$@),$(CONFIG_DEBUG_INFO_BTF_MODULES),$(or $(CONFIG_MODVERSIONS),$(CONFIG_TRIM_UNUSED_KSYMS),\
 	$(CONFIG_FTRACE_MCOUNT_USE_RECORDMCOUNT)))
 confstamp-begun-file = $(@D)/.$(@F).begun.tmp
@@ -101,10 +97,9 @@ confstamp-target = $(call confstamp-named,$@)
 confstamp-syncconfig = $(if $(filter syncconfig silentoldconfig,$@),$(CONFSTAMP_KBUILD)/syncconfig $(confstamp-dialect) \
 	$(if $(confstamp-project),--project $(confstamp-project)) $(if $(findstring s,$(confstamp-options)),--quiet))
 
-# BusyBox's .config has a fixed place. What a synchronisation writes last is its header, and make then splits that into stamps. This
-# empties confstamp.h, a header of no symbol, so a synchronisation without the hooks is seen by it. `make oldconfig` writes the header
-# as well, and so does a synchronisation that is killed: then the old .config may come back, so the header's text counts too.
-# `make mrproper` removes the header of confstamp as well.
+# BusyBox's .config has a fixed place. What a synchronisation writes last is its header, and make then splits that into stamps, which empties
+# confstamp.h, a header of no symbol: so a synchronisation without the hooks is seen. `make oldconfig` writes the header as well, and so does
+# a synchronisation that is killed, after which the old .config may come back: so the header's text counts too. mrproper removes confstamp's.
 confstamp-config = $(KCONFIG_CONFIG)
 confstamp-last-file = include/config/auto.conf
 ifeq ($(confstamp-dialect),--dialect busybox)
@@ -117,10 +112,9 @@ override cmd_split_autoconf = scripts/basic/split-include include/autoconf.h inc
 MRPROPER_DIRS += include/generated
 endif
 
-# Has auto.conf another generation than the hook's last one, or none, or is .config not the text that was synchronised then?
-# File times don't say it: a .config that was copied back may have an old one. Or has Linux's own tool been here, which writes
-# auto.conf.cmd before all else, and without the mark? make reads the files itself where it can (from GNU make 4.2 on), since each
-# process would cost more than that.
+# Has auto.conf another generation than the hook's last one, or none, or is .config not the text that was synchronised then, whatever its time?
+# Or has Linux's own tool been here, which writes auto.conf.cmd before all else, and without the mark? make reads the files itself where it
+# can (from GNU make 4.2 on), since each process would cost more than that.
 confstamp-mark := Synchronised by the hooks of confstamp
 define confstamp-line-feed
 
@@ -152,16 +146,14 @@ confstamp-synchronised = $(shell grep -qsxFf include/config/confstamp.generation
 	$(if $(confstamp-dialect),,&& grep -qsF '$(confstamp-mark)' include/config/auto.conf.cmd) && echo yes)
 endif
 
-# Where auto.conf had to get a future mtime, as a Kconfig file has one, this is a list of these files with their mtimes and sizes: a
-# change of another one doesn't show by its mtime. A make without confstamp in PATH removes the list of records, and what it compiled
-# has no number.
+# Where auto.conf had to get a future mtime, as a Kconfig file has one, this is a list of these files with their mtimes and sizes: a change
+# doesn't show by its mtime. A make without confstamp in PATH removes the list of records, and what it compiled has no number.
 confstamp-kconfigs = include/config/confstamp.kconfigs
 confstamp-changed = $(if $(wildcard include/config/confstamp.records),$(if $(wildcard $(confstamp-kconfigs)),$(shell sed 's/ .*//' \
 	$(confstamp-kconfigs) | tr '\n' '\0' | xargs -0 stat -Lc '%n %y %z %s' 2>&1 | cmp -s - $(confstamp-kconfigs) || echo changed)),yes)
 
-# Where a recipe fails make removes its targets, and with auto.conf the generation would be lost; a synchronisation that fails
-# leaves its files as they may be. One that is part of a build counts no objects, since make is about to compile them. After each
-# make begins again, and must find that all is synchronised: it doesn't go on for ever where it never does.
+# Where a recipe fails make removes its targets, and with auto.conf the generation would be lost. A synchronisation of a build counts no
+# objects, since make is about to compile them. After each make begins again; where all is never synchronised it doesn't go on for ever.
 define confstamp-rules
 $(confstamp-take-over)
 .PRECIOUS: $(addprefix include/,config/auto.conf config/auto.conf.cmd generated/autoconf.h generated/rustc_cfg)
@@ -179,10 +171,10 @@ confstamp-take-over = $(if $(and $(MAKE_RESTARTS),$(wildcard include/config/conf
 	include/config/confstamp.pending include/config/confstamp.config))
 confstamp-never = $(error confstamp has synchronised $(MAKE_RESTARTS) times, and $(confstamp-config) still isn't what was synchronised)
 
-# kbuild/restore needs to know whether the last make of all ended well. When one begins, this file gets the word `begun`, and at its
-# end `ended`, unless make ignores errors. A make of some goals alone turns `ended` into `part`, but for .kernelrelease, which is a part
-# of BusyBox's `make oldconfig`. The recipe is empty, so no process is started. This directory stands after the word. Where that is
-# another one the tree may be a copy by hard links, and what is written into here must not be a file of the other tree.
+# kbuild/restore needs to know whether the last make of all ended well. When one begins, this file gets the word `begun`, and at its end `ended`,
+# unless make ignores errors. A make of some goals turns `ended` into `part`, but for .kernelrelease, a part of BusyBox's `make oldconfig`. The
+# recipe is empty, so no process is started. This directory stands after the word. Where that is another one the tree may be a copy by hard
+# links, and what is written into here must not be a file of the other tree.
 confstamp-make-mark = include/config/confstamp.make
 confstamp-whole ?= $(if $(confstamp-dialect),_all,all)
 confstamp-options = $(firstword -$(MAKEFLAGS))
@@ -205,8 +197,8 @@ $(if $(confstamp-marked),$(confstamp-its-own)$(if $(confstamp-begun),$(call conf
 $(if $(KBUILD_EXTMOD),,$(confstamp-whole): ; $$(confstamp-ended))
 endef
 
-# The tree's numbers may have gone on since an external module's objects were recorded. So these are asked about as make begins. Where
-# the tree is another user's, nothing is added to its list for a directory of it.
+# The tree's numbers may have gone on since an external module's objects were recorded. So these are asked about as make begins. Where the tree
+# is another user's, nothing is added to its list for a directory of it.
 confstamp-mark-due = $(if $(confstamp-only-asked),,$(if $(filter done,$(shell $(if $(confstamp-elsewhere),cd $(objtree) &&) \
 	$(CONFSTAMP_KBUILD)/mark $(confstamp-module) && echo done)),,$(error stale objects could not be marked)))
 ifneq ($(KBUILD_EXTMOD),$(CONFSTAMP_MARKED))
@@ -215,26 +207,25 @@ export CONFSTAMP_UNLISTED := $(if $(KBUILD_EXTMOD),$(shell [ -w $(confstamp-of-t
 $(if $(and $(KBUILD_EXTMOD),$(filter-out clean help modules_install,$(or $(MAKECMDGOALS),modules))),$(confstamp-mark-due))
 endif
 
-# In the command file of what is due a stamp replaces the saved command. make takes it for a newer file: with V=2 it names it, and with
-# KBUILD_NOCMDDEP=1, where no command counts, it compiles the object even so. An object of an external module may have a command under
-# its whole path alone. BusyBox has a word for commands alone.
+# In the command file of what is due a stamp replaces the saved command. make takes it for a newer file, so V=2 names it, and KBUILD_NOCMDDEP=1,
+# where no command counts, doesn't matter. An object of an external module may have a command under its whole path alone. BusyBox has a word
+# for commands alone.
 confstamp-stamp-in = $(if $(word 2,$(1)),,$(filter include/config/%,$(1)))
 confstamp-due-by = $(call confstamp-stamp-in,$(savedcmd_$@)) $(if $(confstamp-elsewhere),$(call \
 	confstamp-stamp-in,$(savedcmd_$(confstamp-target))))
 confstamp-pending = $(filter-out $?,$(sort $(confstamp-due-by) $(confstamp-unfinished)))
 $(foreach word,newer-prereqs any-prereq arg-check cmd-check,$(eval $(word) = $$(strip $(value $(word)) $$(confstamp-pending))))
 
-# kbuild/stale --make asks what make would do, by make -n. Recipes that begin with `+` run even then, and the link of vmlinux and
-# of modules does, and rustc. So no recipe is left. Of each target that make comes to, lines are reported:
+# kbuild/stale --make asks what make would do, by make -n. Recipes that begin with `+`, the links of vmlinux and modules, and rustc run even
+# then, so no recipe is left. Of each target that make comes to, lines are reported:
 #   - confstamp-visited: its name,
-#   - confstamp-rebuild: of an object with a list of dependencies that isn't up to date, its command as a word of the shell, and
-#     the files that make takes for newer. It takes all for newer of what it would rewrite;
-#   - confstamp-linked: of what is made of other files whether its command differs, and these files. vmlinux is an object of
-#     both kinds. U-Boot writes its environment without a saved command, each time. BusyBox links so, and what counts there is
-#     these files. A step that make removed behind it is gone, and no reason by itself. dtoc writes its files by one rule;
+#   - confstamp-rebuild: of an object with a list of dependencies that isn't up to date, its command as a word of the shell, and the files
+#     that make takes for newer, among them all that it would rewrite;
+#   - confstamp-linked: of what is made of other files whether its command differs, and these files. vmlinux is an object of both kinds.
+#     U-Boot writes its environment without a saved command, each time. BusyBox links so, and what counts there is these files. A step that
+#     make removed behind it is gone, and no reason by itself. dtoc writes its files by one rule;
 #   - confstamp-text: a text that would come out otherwise. The commands that print it run, since they show it.
-# A line that has $(MAKE) in it runs as well, and in Linux 6.1 one of them writes autoksyms.h and include/ksym/, so it gets a
-# shell that does nothing.
+# A line that has $(MAKE) in it runs as well, and in Linux 6.1 one of them writes autoksyms.h and include/ksym/: its shell does nothing.
 ifdef CONFSTAMP_ASKS
 ifdef confstamp-dialect
 confstamp-newer = $(filter-out $(PHONY),$?) $(filter-out $(PHONY) $(wildcard $^),$^)

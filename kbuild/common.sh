@@ -18,34 +18,19 @@ fi
 here=${0%/*}
 [ "${here#/}" != "$here" ] || here=$PWD/$here
 auto=include/config/auto.conf
-synced_config=include/config/confstamp.config
-generation_file=include/config/confstamp.generation
-numbers_name=include/config/confstamp.numbers
-records=include/config/confstamp.records
-module_records=.confstamp.records
-dialects=include/config/confstamp.dialect
-split=include/config/confstamp.h
-conf_header=include/config/confstamp.header
-make_mark=include/config/confstamp.make
-clock_ref=include/config/confstamp.time
-kconfigs_ahead=include/config/confstamp.kconfigs
-kept_auto=include/config/confstamp.auto
-kept_header=include/config/confstamp.autoconf
-verified=include/config/confstamp.verified
+ours=include/config/confstamp
+synced_config=$ours.config generation_file=$ours.generation numbers_name=$ours.numbers dialects=$ours.dialect
+records=$ours.records module_records=.confstamp.records verified=$ours.verified
+make_mark=$ours.make clock_ref=$ours.time kconfigs_ahead=$ours.kconfigs
+kept_auto=$ours.auto kept_header=$ours.autoconf split=$ours.h conf_header=$ours.header
 mark='# Synchronised by the hooks of confstamp'
 
 # The program: that of CONFSTAMP, or that was installed with the hooks, or that in PATH.
 confstamp=${CONFSTAMP:-$here/../../../bin/confstamp}
 [ -n "${CONFSTAMP:-}" ] || [ -x "$confstamp" ] || confstamp=confstamp
 
-report() {
-    echo "kbuild/${0##*/}: $*" >&2
-}
-
-refuse() {
-    report "$*"
-    exit 2
-}
+report() { echo "kbuild/${0##*/}: $*" >&2; }
+refuse() { report "$*"; exit 2; }
 
 # use_dialect DIALECT: the project of the tree. BusyBox's tool has fixed paths for .config and for the list of the Kconfig files.
 use_dialect() {
@@ -60,10 +45,7 @@ dialect=
 [ ! -e "$dialects" ] || read -r dialect < "$dialects"
 use_dialect "$dialect"
 
-wrong_words() {
-    echo "usage: kbuild/${0##*/} $1" >&2
-    exit 2
-}
+wrong_words() { echo "usage: kbuild/${0##*/} $1" >&2; exit 2; }
 
 # directories_only USAGE WORD..
 directories_only() {
@@ -106,9 +88,7 @@ find_there() {
 }
 
 # each COMMAND..: runs it with the words that standard input has, one a line; not at all if there are none.
-each() {
-    tr '\n' '\0' | xargs -0 -r "$@"
-}
+each() { tr '\n' '\0' | xargs -0 -r "$@"; }
 
 # commands_of TARGET: `commands`, its command file.
 commands_of() {
@@ -117,23 +97,14 @@ commands_of() {
 }
 
 # The same for a list, and from the command files to the targets.
-to_commands() {
-    sed 's,[^/]*$,.&.cmd,' "$@"
-}
-to_targets() {
-    sed 's,\.\([^/ ]*\)\.cmd$,\1,' "$@"
-}
+to_commands() { sed 's,[^/]*$,.&.cmd,' "$@"; }
+to_targets() { sed 's,\.\([^/ ]*\)\.cmd$,\1,' "$@"; }
 
 table=no
-wants_table() {
-    [ "$1" = --by-directory ] || [ "$1" = --by-folder ] || return 1
-    table=yes
-}
+wants_table() { { [ "$1" = --by-directory ] || [ "$1" = --by-folder ]; } && table=yes; }
 
 # directories_of TARGETS: the directories of these files, and those above them.
-directories_of() {
-    awk 'BEGIN { print "." } { while (sub(/\/[^\/]*$/, "") && $0 != "" && !known[$0]++) print }' "$1"
-}
+directories_of() { awk 'BEGIN { print "." } { while (sub(/\/[^\/]*$/, "") && $0 != "" && !known[$0]++) print }' "$1"; }
 
 # look_through USAGE DIR..: begins a hook that is asked about directories: `targets` is what was recorded there. If nothing was, it ends.
 look_through() {
@@ -143,14 +114,10 @@ look_through() {
     "$here/objects" "$@" > "$tmpdir/targets"
     [ -s "$tmpdir/targets" ] || refuse "$(nothing_here "$@")"
 }
-nothing_here() {
-    echo "nothing was recorded below ${*:-.}: run it in the directory where make runs"
-}
+nothing_here() { echo "nothing was recorded below ${*:-.}: run it in the directory where make runs"; }
 
 # numbers_here: what distinguishes the numbers of this tree from those of other trees, of its copies, and of before `make mrproper`.
-numbers_here() {
-    echo "$(cat "$numbers_name") $(pwd -P)"
-}
+numbers_here() { echo "$(cat "$numbers_name") $(pwd -P)"; }
 
 # has_other_numbers DIR: do the records of the external module there have other numbers than this tree, so that they can't be compared?
 has_other_numbers() {
@@ -265,9 +232,7 @@ patiently() {
 }
 
 # Of standard input, one a line: a time before all others. It is second 1, since 0 says to some tools that a file isn't there.
-age_files() {
-    each touch -c -d @1
-}
+age_files() { each touch -c -d @1; }
 
 # mark_due DIRECTORY [--unrecorded]: each object of DIRECTORY/targets that is stale by its record is due, and with --unrecorded also what is
 # refused, or has no number. `due` is how many. The stamp of the symbol becomes the saved command, until the next record, so make compiles
@@ -359,17 +324,13 @@ plain_path='
 '
 
 # listing WORD..: of the files that find WORD.. finds lines `MTIME CTIME PATH`, to the nanosecond; with_times: of those of a list that exist.
-listing() {
-    find "$@" -print | with_times
-}
+listing() { find "$@" -print | with_times; }
 with_times() {
     each stat -c '%Y %y|%Z %z|%n' 2> /dev/null | sed 's/^\([0-9]*\) [^.|]*\(\.[0-9]*\)[^|]*|\([0-9]*\) [^.|]*\(\.[0-9]*\)[^|]*|/\1\2 \3\4 /'
 }
 
 # time_of FILE: its mtime, or nothing.
-time_of() {
-    echo "$1" | with_times | cut -d ' ' -f 1
-}
+time_of() { echo "$1" | with_times | cut -d ' ' -f 1; }
 
 # The witness is a file that holds its own mtime, so where it was copied to one can see whether mtimes were kept. In a file system without
 # times to less than a second it says another one. One that is wrong stays so until kbuild/restore has mended the times.
@@ -397,9 +358,7 @@ difference_of_config() {
 }
 
 # by_count: how often each word of standard input stands there, the most frequent first.
-by_count() {
-    awk '{ count[$1]++ } END { for (word in count) printf "%7d %s\n", count[word], word }' | sort -k1,1nr -k2
-}
+by_count() { awk '{ count[$1]++ } END { for (word in count) printf "%7d %s\n", count[word], word }' | sort -k1,1nr -k2; }
 
 # count_answers ANSWERS [WANTED]: prints how many objects are in which state. Status: 0 all are fresh, 1 some are stale, 2 some are refused,
 # or fewer were answered than was wanted.

@@ -5,8 +5,9 @@
 #     set(confstamp_dotconfig FILE)    the configuration (.config of the sources)
 #     include(.../lib/confstamp/ninja/confstamp.cmake)
 #
-# Each build begins with the synchronisation: ninja runs cmake again after one, and under make each target waits for it. A part of the
-# project that includes it too, as by FetchContent, goes by the same files.
+# It synchronises when cmake configures. At the beginning of each build the texts of both files are compared with what was
+# synchronised, whatever their times: ninja runs cmake again where they differ, and under make each target waits for it.
+# A part of the project that includes it too, as by FetchContent, goes by the same files.
 
 include_guard(GLOBAL)
 if(NOT confstamp_kconfig)

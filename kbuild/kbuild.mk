@@ -30,7 +30,8 @@ confstamp-verifies = $(filter-out 0 no,$(CONFSTAMP_VERIFY))
 # before it has failed. The program comes first, since a shell for each object costs more than the record; it removes the dependency file
 # itself, and the recipe ends there. With cmd_T autoksyms.h has to be left out of the dependency file, where it is in use; the hook does that.
 # Where the hook says that fixdep has found another name, with status 3, the recipe ends.
-confstamp-record = $(confstamp-begin)confstamp_fixdep() { $(if $(confstamp-by-hook),,$(confstamp-directly) ||) $(confstamp-hook) \
+confstamp-record = $(confstamp-begin)confstamp_fixdep() { $(confstamp-in-time) || return 0; \
+	$(if $(confstamp-by-hook),,$(confstamp-directly) ||) $(confstamp-hook) \
 	"$$2" "$$3" "$$4" $(confstamp-prefix) && $(confstamp-theirs) || \
 	$(if $(confstamp-verifies),{ [ $$? != 3 ] || exit 1; false; } ||) "$$@"; }; \
 	confstamp_fixdep
@@ -42,6 +43,13 @@ confstamp-directly = { $(CONFSTAMP) $(if $(confstamp-elsewhere),-C $(objtree)) $
 	$(confstamp-dialect),--cmd,--remove-depfile $(if $(confstamp-prefix),--cmd)) $(confstamp-early) $(if \
 	$(confstamp-elsewhere),--in $(CURDIR) --tree $(objtree)) -- \
 	$(confstamp-from)"$$2" $(confstamp-from)"$$3" "$$4" > /dev/null 2>&1 $(confstamp-and-then); }
+
+# Another make may synchronise while the compiler runs, also one after a make that was killed, whose compiler goes on. The record would
+# have the new number, and the object isn't of it. So where the number is another one than as the recipe was made, or is about to change,
+# nothing is recorded: the command file stays empty, and the next make compiles the object.
+confstamp-in-time = { now=; [ ! -e $(confstamp-number-file) ] || read -r now < $(confstamp-number-file) || :; [ "$$now" = '$(filter-out \
+	synchronising,$(strip $(call confstamp-read,$(confstamp-number-file))))' ]; }
+confstamp-number-file = $(confstamp-tree)include/config/confstamp.generation
 
 # Where there is no auto.conf yet, as for the first host programs, a record has the number 0.
 confstamp-early = $(if $(wildcard $(confstamp-tree)include/config/auto.conf),,--before-sync)
